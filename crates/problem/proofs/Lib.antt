@@ -1,0 +1,7 @@
+pub mod Effects
+pub mod Listed
+pub mod Every
+pub mod CalmRuns
+pub mod FirmCalm
+pub mod Steps
+pub mod Placing

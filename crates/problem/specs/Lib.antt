@@ -1,0 +1,9 @@
+pub mod Rows
+pub mod Actions
+pub mod Firm
+pub mod Orders
+pub mod Calm
+pub mod Runs
+pub mod Problems
+pub mod Refusals
+pub mod Declines
