@@ -5,3 +5,6 @@ pub mod CalmRuns
 pub mod FirmCalm
 pub mod Steps
 pub mod Placing
+pub mod Running
+pub mod Fitting
+pub mod Exampling

@@ -7,3 +7,5 @@ pub mod Runs
 pub mod Problems
 pub mod Refusals
 pub mod Declines
+pub mod Theorems
+pub mod Examples

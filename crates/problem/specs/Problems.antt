@@ -18,13 +18,13 @@ actionAt rows effects k = record {
   precondition = rowAt rows k .precondition;
   effects = take (begins rows (length effects) (k + 1) - begins rows (length effects) k) (drop (begins rows (length effects) k) effects) }
 
+-- the task of these numbers and rows, and of a problem
+abbrev pub taskFrom : ℕ → ℕ → ℕ → List ActionRow → List EffectRow → Task
+taskFrom m h first rows effects =
+    record { atoms = m; hands = h; first = first; count = length rows; at = actionAt rows effects }
+
 abbrev pub taskOf : Problem → Task
-taskOf p = record {
-  atoms = p .atoms;
-  hands = p .hands;
-  first = p .first;
-  count = length (now (p .actions));
-  at = actionAt (now (p .actions)) (now (p .effects)) }
+taskOf p = taskFrom (p .atoms) (p .hands) (p .first) (now (p .actions)) (now (p .effects))
 
 -- the problem has these numbers and rows
 abbrev pub Consists : Problem → ℕ → ℕ → ℕ → List ActionRow → List EffectRow → Type 0

@@ -215,3 +215,10 @@ ones-mono a b f = by-halves a b (inside-le a b f)
 
 pub inside-lt : (a b : ℕ) → Inside a b → b < 2 ^ 64 → a < 2 ^ 64
 inside-lt a b f h = omega (arith, inside-and a b f, and-le-r a b)
+
+-- a difference is empty just where the one set lies inside the other
+pub minus-none : (a b : ℕ) → Inside a b → minus a b ≡ 0
+minus-none a b f = empty-of (minus a b) (λ k. omega (arith, bit-minus a b k, inside-le a b f k))
+
+pub none-minus : (a b : ℕ) → minus a b ≡ 0 → Inside a b
+none-minus a b e k h = omega (arith, h, ap (λ (x : ℕ). bit x k) e, bit-minus a b k, bit-none k, bit-digit b k)

@@ -1,5 +1,5 @@
 ghost use mathlib.Core.Path.{_≡_};
-ghost use Prim.Native.Nat.{ℕ, _^_, _<_, _≤_, min};
+ghost use Prim.Native.Nat.{ℕ, _+_, _^_, _<_, _≤_, min};
 ghost use lib.Count.{ones};
 ghost use Rattle.std.specs.Options.{Cases as BySome};
 ghost use Rattle.std.specs.Orderings.{Decides};
@@ -50,7 +50,8 @@ pub fn lowest(set: u64) -> Option<u32>
 
 // A set without its lowest member.
 pub fn rest(set: u64) -> u64
-    ensures { λ r. ⌜ Marks r (λ k. Has set k × (Lowest set k → ⊥)) ⌝ }
+    ensures members { λ r. ⌜ Marks r (λ k. Has set k × (Lowest set k → ⊥)) ⌝ }
+    ensures fewer { λ r. ⌜ ((set ≡ 0 → ⊥) → ones r + 1 ≡ ones set) ⌝ }
 {
     if set == 0 { 0 } else { set & (set - 1) }
 }
