@@ -1,0 +1,7 @@
+mod Trees
+mod Paths
+mod Crowds
+mod Growth
+mod Widening
+mod Exploring
+mod Numbers

@@ -1,0 +1,4 @@
+pub mod Trees
+pub mod Growth
+pub mod Searches
+pub mod Lines
