@@ -30,7 +30,8 @@ module _ (at : ℕ → Action) (s step : ℕ) (calm : Calm at s step) where
     source = λ k h. inl h;
     gone = λ j h n k. absurd (n h);
     stays = λ k h f. h;
-    given = λ j h n. absurd (n h) }
+    given = λ j h n. absurd (n h);
+  }
 
   module _ (t rest : ℕ) (r : Reached at s step t rest) (i : ℕ) (hi : Has rest i) where
     other : (j : ℕ) → (Has rest j → ⊥) → i ≢ j
@@ -40,13 +41,16 @@ module _ (at : ℕ → Action) (s step : ℕ) (calm : Calm at s step) where
     turn = (
       λ k h. r .stays k (calm .ready i (r .part i hi) k h) (λ j hj n c. calm .needs i j (r .part i hi) hj (other j n) k h c),
       alike-all (at i .effects) s t (λ e among. same-tests (fires s e) (fires t e)
-        (λ f. inside-fires t e (λ k h. r .stays k (fires-inside s e f k h) (λ j hj n c. calm .holds i j (r .part i hi) hj (other j n) e among f k h c)))
-        (λ f. let sub = fires-inside t e f in
+          (λ f. inside-fires t e (λ k h. r .stays k (fires-inside s e f k h) (λ j hj n c. calm .holds i j (r .part i hi) hj (other j n) e among f k h c)))
+          (λ f. let sub = fires-inside t e f in
           elim (decT (fires s e)) [
-            yes y ↦ y
-          | no n ↦ absurd (calm .rests i (r .part i hi) e among n (λ k h. elim (r .source k (sub k h)) [
-              inl a ↦ inl a
-            | inr p ↦ inr (p .0, p .1, (λ e. other (p .0) (p .2) (sym e)), (λ k′ h′ c. r .gone (p .0) (p .1) (p .2) k′ c (sub k′ h′)), p .3) ])) ])))
+            | yes y ↦ y
+            | no n ↦ absurd (calm .rests i (r .part i hi) e among n (λ k h. elim (r .source k (sub k h)) [
+              | inl a ↦ inl a
+              | inr p ↦ inr (p .0, p .1, (λ e. other (p .0) (p .2) (sym e)), (λ k′ h′ c. r .gone (p .0) (p .1) (p .2) k′ c (sub k′ h′)), p .3)
+            ]))
+          ])),
+    )
 
     gave : (k : ℕ) → bit (result (at i) t) k ≡ max (bit t k) (bit (gives at s i) k) - bit (cuts at s i) k
     gave k = result-bit at i s t k (turn .1)
@@ -60,24 +64,32 @@ module _ (at : ℕ → Action) (s step : ℕ) (calm : Calm at s step) where
     next = record {
       part = λ k h. r .part k (left-in rest i k h);
       source = λ k h. elim (has? t k) [
-        yes a ↦ elim (r .source k a) [ inl b ↦ inl b | inr p ↦ inr (p .0, p .1, (λ x. p .2 (left-in rest i (p .0) x)), p .3) ]
-      | no a ↦ inr (i, r .part i hi, (λ x. left-other rest i i x refl),
-          omega (arith, h, gave k, net-apart at s i k, bit-digit t k, bit-digit (gives at s i) k)) ];
+        | yes a ↦ elim (r .source k a) [ inl b ↦ inl b | inr p ↦ inr (p .0, p .1, (λ x. p .2 (left-in rest i (p .0) x)), p .3) ]
+        | no a ↦ inr (
+          i,
+          r .part i hi,
+          (λ x. left-other rest i i x refl),
+          omega (arith, h, gave k, net-apart at s i k, bit-digit t k, bit-digit (gives at s i) k),
+        )
+      ];
       gone = λ j hj n k c h. elim (ℕ-discrete j i) [
-        yes e ↦ (let c′ : Has (cuts at s i) k = subst (λ (x : ℕ). Has (cuts at s x) k) e c in
-          omega (arith, h, gave k, c′, bit-digit t k, bit-digit (gives at s i) k))
-      | no ne ↦ (let m : Has rest j → ⊥ = λ x. n (left-has rest i j x ne) in
-          let a : Has t k → ⊥ = r .gone j hj m k c in
-          calm .clash i j (r .part i hi) hj (λ e. ne (sym e)) k
-            (omega (arith, h, gave k, net-apart at s i k, bit-digit t k, bit-digit (gives at s i) k)) c) ];
+        | yes e ↦ (let c′ : Has (cuts at s i) k = subst (λ (x : ℕ). Has (cuts at s x) k) e c in
+            omega (arith, h, gave k, c′, bit-digit t k, bit-digit (gives at s i) k))
+        | no ne ↦ (let m : Has rest j → ⊥ = λ x. n (left-has rest i j x ne) in
+            let a : Has t k → ⊥ = r .gone j hj m k c in
+            calm .clash i j (r .part i hi) hj (λ e. ne (sym e)) k
+            (omega (arith, h, gave k, net-apart at s i k, bit-digit t k, bit-digit (gives at s i) k)) c)
+      ];
       stays = λ k h f.
-        let a : Has t k = r .stays k h (λ j hj n c. f j hj (λ x. n (left-in rest i j x)) c) in
-        let b : Has (cuts at s i) k → ⊥ = λ c. f i (r .part i hi) (λ x. left-other rest i i x refl) c in
-        omega (arith, gave k, bit-digit (cuts at s i) k, bit-digit (gives at s i) k);
+          let a : Has t k = r .stays k h (λ j hj n c. f j hj (λ x. n (left-in rest i j x)) c) in
+          let b : Has (cuts at s i) k → ⊥ = λ c. f i (r .part i hi) (λ x. left-other rest i i x refl) c in
+          omega (arith, gave k, bit-digit (cuts at s i) k, bit-digit (gives at s i) k);
       given = λ j hj n k h. elim (ℕ-discrete j i) [
-        yes e ↦ (let h′ : Has (gives at s i) k = subst (λ (x : ℕ). Has (gives at s x) k) e h in
-          omega (arith, gave k, h′, net-apart at s i k, bit-digit t k, bit-digit (gives at s i) k))
-      | no ne ↦ omega (arith, gave k, r .given j hj (λ x. n (left-has rest i j x ne)) k h, apart-bit j k hj ne h, bit-digit (gives at s i) k) ] }
+        | yes e ↦ (let h′ : Has (gives at s i) k = subst (λ (x : ℕ). Has (gives at s x) k) e h in
+            omega (arith, gave k, h′, net-apart at s i k, bit-digit t k, bit-digit (gives at s i) k))
+        | no ne ↦ omega (arith, gave k, r .given j hj (λ x. n (left-has rest i j x ne)) k h, apart-bit j k hj ne h, bit-digit (gives at s i) k)
+      ];
+    }
 
   -- along any order of what is still to run
   run : (seq : List ℕ) (t rest : ℕ) → Reached at s step t rest → Order rest seq → (end : ℕ) × Runs at s t seq end × Reached at s step end 0
@@ -94,7 +106,8 @@ module _ (at : ℕ → Action) (s step : ℕ) (calm : Calm at s step) where
     source = λ k h. elim (r .source k h) [ inl a ↦ inl a | inr p ↦ inr (p .0, p .1, p .3) ];
     gone = λ j hj. r .gone j hj (nothing j);
     stays = λ k h f. r .stays k h (λ j hj _. f j hj);
-    given = λ j hj. r .given j hj (nothing j) }
+    given = λ j hj. r .given j hj (nothing j);
+  }
 
   ends-inside : (a b : ℕ) → Ends at s step a → Ends at s step b → Inside a b
   ends-inside a b p q k h =

@@ -20,17 +20,29 @@ gather-alike mask s t (e ∷ es) f =
 -- what an action gives and what it cuts are apart
 pub net-apart : (at : ℕ → Action) (s i k : ℕ) → bit (gives at s i) k + bit (cuts at s i) k ≤ 1
 net-apart at s i k =
-    omega (arith, bit-minus (adds s (at i .effects)) (deletes s (at i .effects)) k,
-      bit-digit (adds s (at i .effects)) k, bit-digit (deletes s (at i .effects)) k)
+    omega (
+      arith,
+      bit-minus (adds s (at i .effects)) (deletes s (at i .effects)) k,
+      bit-digit (adds s (at i .effects)) k,
+      bit-digit (deletes s (at i .effects)) k,
+    )
 
 -- a state after a turn, atom by atom, from what the action gives and cuts in s
 pub result-bit : (at : ℕ → Action) (i s t k : ℕ) → FireAlike (at i .effects) s t
     → bit (result (at i) t) k ≡ max (bit t k) (bit (gives at s i) k) - bit (cuts at s i) k
 result-bit at i s t k f =
     let es = at i .effects in
-    omega (arith, bit-minus (bitOr t (adds t es)) (deletes t es) k, bit-or t (adds t es) k,
-      bit-minus (adds s es) (deletes s es) k, bit-digit t k, bit-digit (adds s es) k, bit-digit (deletes s es) k,
-      ap (λ (x : ℕ). bit x k) (gather-alike (λ e. e .add) s t es f), ap (λ (x : ℕ). bit x k) (gather-alike (λ e. e .delete) s t es f))
+    omega (
+      arith,
+      bit-minus (bitOr t (adds t es)) (deletes t es) k,
+      bit-or t (adds t es) k,
+      bit-minus (adds s es) (deletes s es) k,
+      bit-digit t k,
+      bit-digit (adds s es) k,
+      bit-digit (deletes s es) k,
+      ap (λ (x : ℕ). bit x k) (gather-alike (λ e. e .add) s t es f),
+      ap (λ (x : ℕ). bit x k) (gather-alike (λ e. e .delete) s t es f),
+    )
 
 pub fires-inside : (s : ℕ) (e : EffectRow) → T (fires s e) → Inside (e .condition) s
 fires-inside s e h = and-inside (e .condition) s (eqb→eq _ _ h)
@@ -67,10 +79,11 @@ module _ (mask : EffectRow → ℕ) (s f : ℕ) where
           → (Has (gather mask s es) f → (x : EffectRow) × Among x es × T (fires s x) × Has (mask x) f)
           → (x : EffectRow) × Among x (e ∷ es) × T (fires s x) × Has (mask x) f
       go true p h ih = elim (has? (mask e) f) [
-          yes a ↦ (e, inl refl, subst T (sym p) tt, a)
+        | yes a ↦ (e, inl refl, subst T (sym p) tt, a)
         | no a ↦ (
             let r = ih (omega (arith, h, bit-or (mask e) (gather mask s es) f, bit-digit (mask e) f, bit-digit (gather mask s es) f)) in
-            (r .0, inr (r .1), r .2, r .3)) ]
+            (r .0, inr (r .1), r .2, r .3))
+      ]
       go false p h ih = let r = ih h in (r .0, inr (r .1), r .2, r .3)
 
   pub gather-has : (es : List EffectRow) (e : EffectRow) → Among e es → T (fires s e) → Has (mask e) f → Has (gather mask s es) f

@@ -71,10 +71,11 @@ module _ (at : ℕ → Action) (s t step end : ℕ) where
       let k : ℕ = trailingZeros 64 left in
       let every′ : EveryOrder at s (result (at k) t) (minus step (2 ^ k)) end = subst₂ (λ (x y : ℕ). EveryOrder at s x y end) en er every in
       elim (ℕ-discrete j k) [
-        yes e ↦ subst (λ (x : ℕ). (seq : List ℕ) → Order (minus step (2 ^ x)) seq → Runs at s t (x ∷ seq) end) (sym e) (λ seq o. (turn, every′ seq o))
-      | no ne ↦ each j hj (λ h. no-j (
-          ap (λ (x : ℕ). bit x j) (low-rest left p lt)
-          ∙ omega (arith, bit-minus left (2 ^ k) j, bit-other k j ne, h))) ]
+        | yes e ↦ subst (λ (x : ℕ). (seq : List ℕ) → Order (minus step (2 ^ x)) seq → Runs at s t (x ∷ seq) end) (sym e) (λ seq o. (turn, every′ seq o))
+        | no ne ↦ each j hj (λ h. no-j (
+            ap (λ (x : ℕ). bit x j) (low-rest left p lt)
+            ∙ omega (arith, bit-minus left (2 ^ k) j, bit-other k j ne, h)))
+      ]
 
   -- the lowest of the step first
   pub lowest-next : (next : ℕ) → step < 2 ^ 64 → 0 < step → next ≡ result (at (trailingZeros 64 step)) t

@@ -26,22 +26,33 @@ order-append : (xs ys : List ℕ) (a b : ℕ) → Order a xs → Order b ys → 
 order-append [] ys a b p q f = subst (λ (x : ℕ). Order (bitOr x b) ys) (sym p) q
 order-append (x ∷ xs) ys a b p q f =
     let apart : (k : ℕ) → bit (2 ^ x) k ≤ 1 - bit b k =
-      λ k. elim (ℕ-discrete k x) [
-        yes e ↦ (let n : Has b k → ⊥ = f k (subst (λ (y : ℕ). Has a y) (sym e) (p .0)) in omega (arith, bit-digit b k, bit-digit (2 ^ x) k))
-      | no ne ↦ omega (arith, bit-other x k ne) ] in
+    λ k. elim (ℕ-discrete k x) [
+      | yes e ↦ (let n : Has b k → ⊥ = f k (subst (λ (y : ℕ). Has a y) (sym e) (p .0)) in omega (arith, bit-digit b k, bit-digit (2 ^ x) k))
+      | no ne ↦ omega (arith, bit-other x k ne)
+    ] in
     let e : bitOr (minus a (2 ^ x)) b ≡ minus (bitOr a b) (2 ^ x) =
-      same-bits _ _ (λ k. omega (arith, bit-or (minus a (2 ^ x)) b k, bit-minus a (2 ^ x) k, bit-minus (bitOr a b) (2 ^ x) k, bit-or a b k, apart k,
-        bit-digit a k, bit-digit b k, bit-digit (2 ^ x) k)) in
-    (omega (arith, p .0, bit-or a b x, bit-digit b x),
-      subst (λ (y : ℕ). Order y (xs ++ ys)) e (order-append xs ys (minus a (2 ^ x)) b (p .1) q (λ k h. f k (left-in a x k h))))
+    same-bits _ _ (λ k. omega (
+      arith,
+      bit-or (minus a (2 ^ x)) b k,
+      bit-minus a (2 ^ x) k,
+      bit-minus (bitOr a b) (2 ^ x) k,
+      bit-or a b k,
+      apart k,
+      bit-digit a k,
+      bit-digit b k,
+      bit-digit (2 ^ x) k,
+    )) in (
+      omega (arith, p .0, bit-or a b x, bit-digit b x),
+      subst (λ (y : ℕ). Order y (xs ++ ys)) e (order-append xs ys (minus a (2 ^ x)) b (p .1) q (λ k h. f k (left-in a x k h))),
+    )
 
 -- an order of a part of step, and then one of the others
 order-split : (xs ys : List ℕ) (step part : ℕ) → ((k : ℕ) → bit part k ≤ bit step k) → Order part xs → Order (minus step part) ys → Order step (xs ++ ys)
 order-split xs ys step part sub p q =
     let e : bitOr part (minus step part) ≡ step =
-      same-bits _ _ (λ k. omega (arith, bit-or part (minus step part) k, bit-minus step part k, sub k, bit-digit step k, bit-digit part k)) in
+    same-bits _ _ (λ k. omega (arith, bit-or part (minus step part) k, bit-minus step part k, sub k, bit-digit step k, bit-digit part k)) in
     subst (λ (y : ℕ). Order y (xs ++ ys)) e (order-append xs ys part (minus step part) p q
-      (λ k h c. omega (arith, h, c, bit-minus step part k, bit-digit step k)))
+    (λ k h c. omega (arith, h, c, bit-minus step part k, bit-digit step k)))
 
 runs-split : (at : ℕ → Action) (s end : ℕ) (xs ys : List ℕ) (t : ℕ) → Runs at s t (xs ++ ys) end → (m : ℕ) × Runs at s t xs m × Runs at s m ys end
 runs-split at s end [] ys t r = (t, refl, r)
@@ -76,17 +87,19 @@ module _ (P : ℕ → Type 0) (d : (k : ℕ) → Dec (P k)) where
   unfolding pick
   in-pick zero k lt p = omega arith
   in-pick (suc n) k lt p = elim (ℕ-discrete k n) [
-      yes e ↦ (let h : Has (chosen (P n) (d n) n) k = subst (λ (y : ℕ). Has (chosen (P n) (d n) n) y) (sym e) (in-chosen (P n) (d n) n (subst P e p)) in
+    | yes e ↦ (let h : Has (chosen (P n) (d n) n) k = subst (λ (y : ℕ). Has (chosen (P n) (d n) n) y) (sym e) (in-chosen (P n) (d n) n (subst P e p)) in
         omega (arith, h, bit-or (pick n) (chosen (P n) (d n) n) k, bit-digit (pick n) k))
-    | no ne ↦ omega (arith, in-pick n k (omega arith) p, bit-or (pick n) (chosen (P n) (d n) n) k, bit-digit (chosen (P n) (d n) n) k) ]
+    | no ne ↦ omega (arith, in-pick n k (omega arith) p, bit-or (pick n) (chosen (P n) (d n) n) k, bit-digit (chosen (P n) (d n) n) k)
+  ]
 
   pick-in : (n k : ℕ) → Has (pick n) k → P k
   unfolding pick
   pick-in zero k h = absurd (let z : ⊥ = omega (arith, h, bit-none k) in z)
   pick-in (suc n) k h = elim (has? (pick n) k) [
-      yes a ↦ pick-in n k a
+    | yes a ↦ pick-in n k a
     | no a ↦ (let c = chosen-in (P n) (d n) n k (omega (arith, h, bit-or (pick n) (chosen (P n) (d n) n) k, bit-digit (chosen (P n) (d n) n) k, bit-digit (pick n) k)) in
-        subst P (sym (c .1)) (c .0)) ]
+        subst P (sym (c .1)) (c .0))
+  ]
 
 -- ---- along a run of actions that delete nothing of c
 
@@ -97,16 +110,17 @@ module _ (at : ℕ → Action) (s c : ℕ) where
   kept-along (x ∷ xs) t m part o f r k hc h =
       let n : Has (cuts at s x) k → ⊥ = f x (o .0) k hc in
       kept-along xs (result (at x) t) m (minus part (2 ^ x)) (o .1) (λ j hj. f j (left-in part x j hj)) (r .1) k hc
-        (omega (arith, h, result-bit at x s t k (r .0 .1), bit-digit (cuts at s x) k, bit-digit (gives at s x) k))
+      (omega (arith, h, result-bit at x s t k (r .0 .1), bit-digit (cuts at s x) k, bit-digit (gives at s x) k))
 
   given-along : (xs : List ℕ) (t m part : ℕ) → Order part xs → ((j : ℕ) → Has part j → Apart c (cuts at s j)) → Runs at s t xs m
       → (j k : ℕ) → Has part j → Has c k → Has (gives at s j) k → Has m k
   given-along [] t m part o f r j k hj hc h = absurd (not-in-none part j o hj)
   given-along (x ∷ xs) t m part o f r j k hj hc h = elim (ℕ-discrete j x) [
-      yes e ↦ (let h′ : Has (gives at s x) k = subst (λ (y : ℕ). Has (gives at s y) k) e h in
+    | yes e ↦ (let h′ : Has (gives at s x) k = subst (λ (y : ℕ). Has (gives at s y) k) e h in
         kept-along xs (result (at x) t) m (minus part (2 ^ x)) (o .1) (λ j hj. f j (left-in part x j hj)) (r .1) k hc
-          (omega (arith, h′, result-bit at x s t k (r .0 .1), net-apart at s x k, bit-digit t k, bit-digit (gives at s x) k)))
-    | no ne ↦ given-along xs (result (at x) t) m (minus part (2 ^ x)) (o .1) (λ j hj. f j (left-in part x j hj)) (r .1) j k (left-has part x j hj ne) hc h ]
+        (omega (arith, h′, result-bit at x s t k (r .0 .1), net-apart at s x k, bit-digit t k, bit-digit (gives at s x) k)))
+    | no ne ↦ given-along xs (result (at x) t) m (minus part (2 ^ x)) (o .1) (λ j hj. f j (left-in part x j hj)) (r .1) j k (left-has part x j hj ne) hc h
+  ]
 
 -- ---- a firm step is calm
 
@@ -126,8 +140,9 @@ module _ (at : ℕ → Action) (s step end : ℕ) (lt : step < 2 ^ 64) (every : 
 
   one-in : (i : ℕ) → Has step i → (k : ℕ) → bit (2 ^ i) k ≤ bit step k
   one-in i hi k = elim (ℕ-discrete k i) [
-      yes e ↦ rw e (omega (arith, hi, bit-one i))
-    | no ne ↦ omega (arith, bit-other i k ne) ]
+    | yes e ↦ rw e (omega (arith, hi, bit-one i))
+    | no ne ↦ omega (arith, bit-other i k ne)
+  ]
 
   last : (i j : ℕ) → Has step i → Has step j → i ≢ j → (m : ℕ) × Runs at s m (i ∷ j ∷ []) end
   last i j hi hj ne =
@@ -136,14 +151,14 @@ module _ (at : ℕ → Action) (s step end : ℕ) (lt : step < 2 ^ 64) (every : 
       let o = order-of part (minus-lt a (2 ^ j) (minus-lt step (2 ^ i) lt)) in
       let left : ℕ = minus step part in
       let bits : (k : ℕ) → bit left k ≡ bit step k - (bit step k - bit (2 ^ i) k - bit (2 ^ j) k) =
-        λ k. omega (arith, bit-minus step part k, bit-minus a (2 ^ j) k, bit-minus step (2 ^ i) k) in
+      λ k. omega (arith, bit-minus step part k, bit-minus a (2 ^ j) k, bit-minus step (2 ^ i) k) in
       let li : Has left i = omega (arith, bits i, hi, bit-one i) in
       let lj : Has left j = omega (arith, bits j, hj, bit-one j) in
       let none : minus (minus left (2 ^ i)) (2 ^ j) ≡ 0 =
-        same-bits _ _ (λ k. omega (arith, bit-minus (minus left (2 ^ i)) (2 ^ j) k, bit-minus left (2 ^ i) k, bits k, one-in i hi k, one-in j hj k, bit-none k)) in
+      same-bits _ _ (λ k. omega (arith, bit-minus (minus left (2 ^ i)) (2 ^ j) k, bit-minus left (2 ^ i) k, bits k, one-in i hi k, one-in j hj k, bit-none k)) in
       let r = runs-split at s end (o .0) (i ∷ j ∷ []) s
-        (every (o .0 ++ (i ∷ j ∷ [])) (order-split (o .0) (i ∷ j ∷ []) step part
-          (λ k. omega (arith, bit-minus a (2 ^ j) k, bit-minus step (2 ^ i) k)) (o .1) (li, (left-has left i j lj (λ e. ne (sym e)), none)))) in
+      (every (o .0 ++ (i ∷ j ∷ [])) (order-split (o .0) (i ∷ j ∷ []) step part
+      (λ k. omega (arith, bit-minus a (2 ^ j) k, bit-minus step (2 ^ i) k)) (o .1) (li, (left-has left i j lj (λ e. ne (sym e)), none)))) in
       (r .0, r .2)
 
   rests : (i : ℕ) → Has step i → (e : EffectRow) → Among e (at i .effects) → (T (fires s e) → ⊥)
@@ -155,13 +170,13 @@ module _ (at : ℕ → Action) (s step end : ℕ) (lt : step < 2 ^ 64) (every : 
       let part : ℕ = minus b (2 ^ i) in
       let sub : (k : ℕ) → bit part k ≤ bit step k = λ k. omega (arith, bit-minus b (2 ^ i) k, bit-and step (pick P d 64) k) in
       let apart : (j : ℕ) → Has part j → Apart (e .condition) (cuts at s j) =
-        λ j hj k h c.
-          let p : P j = pick-in P d 64 j (omega (arith, bit-and step (pick P d 64) j, left-in b i j hj, bit-digit (pick P d 64) j)) in
-          omega (arith, h, c, bit-and (e .condition) (cuts at s j) k, ap (λ (y : ℕ). bit y k) p, bit-none k) in
+      λ j hj k h c.
+      let p : P j = pick-in P d 64 j (omega (arith, bit-and step (pick P d 64) j, left-in b i j hj, bit-digit (pick P d 64) j)) in
+      omega (arith, h, c, bit-and (e .condition) (cuts at s j) k, ap (λ (y : ℕ). bit y k) p, bit-none k) in
       let member : (j : ℕ) → Has step j → j ≢ i → Apart (e .condition) (cuts at s j) → Has part j =
-        λ j hj ne f.
-          let p : P j = apart-and (e .condition) (cuts at s j) f in
-          left-has b i j (omega (arith, hj, bit-and step (pick P d 64) j, in-pick P d 64 j (has-lt step j lt hj) p)) ne in
+      λ j hj ne f.
+      let p : P j = apart-and (e .condition) (cuts at s j) f in
+      left-has b i j (omega (arith, hj, bit-and step (pick P d 64) j, in-pick P d 64 j (has-lt step j lt hj) p)) ne in
       let o = order-of part (minus-lt b (2 ^ i) (omega (arith, and-le-l step (pick P d 64)))) in
       let left : ℕ = minus step part in
       let li : Has left i = omega (arith, hi, bit-minus step part i, bit-minus b (2 ^ i) i, bit-one i, bit-digit b i) in
@@ -169,35 +184,48 @@ module _ (at : ℕ → Action) (s step end : ℕ) (lt : step < 2 ^ 64) (every : 
       let r = runs-split at s end (o .0) (i ∷ q .0) s (every (o .0 ++ (i ∷ q .0)) (order-split (o .0) (i ∷ q .0) step part sub (o .1) (li, q .1))) in
       let alike = alike-at (at i .effects) s (r .0) (r .2 .0 .1) e among in
       nf (subst T (sym alike) (inside-fires (r .0) e (λ k h. elim (hyp k h) [
-        inl a ↦ kept-along at s (e .condition) (o .0) s (r .0) part (o .1) apart (r .1) k h a
-      | inr g ↦ given-along at s (e .condition) (o .0) s (r .0) part (o .1) apart (r .1) (g .0) k (member (g .0) (g .1) (g .2) (g .3)) h (g .4) ])))
+        | inl a ↦ kept-along at s (e .condition) (o .0) s (r .0) part (o .1) apart (r .1) k h a
+        | inr g ↦ given-along at s (e .condition) (o .0) s (r .0) part (o .1) apart (r .1) (g .0) k (member (g .0) (g .1) (g .2) (g .3)) h (g .4)
+      ])))
 
   pub firm-calm : Calm at s step
   firm-calm = record {
     ready = λ i hi. first i hi .0;
     clash = λ i j hi hj ne k g c.
-      let m : ℕ = last i j hi hj ne .0 in
-      let n : ℕ = last j i hj hi (λ e. ne (sym e)) .0 in
-      let p = last i j hi hj ne .1 in
-      let q = last j i hj hi (λ e. ne (sym e)) .1 in
-      omega (arith, g, c, ap (λ (y : ℕ). bit y k) (p .1 .1), ap (λ (y : ℕ). bit y k) (q .1 .1),
-        result-bit at j s _ k (p .1 .0 .1), result-bit at i s _ k (q .1 .0 .1), net-apart at s i k,
-        bit-digit (gives at s i) k, bit-digit (gives at s j) k, bit-digit (result (at i) m) k, bit-digit (result (at j) n) k);
+        let m : ℕ = last i j hi hj ne .0 in
+        let n : ℕ = last j i hj hi (λ e. ne (sym e)) .0 in
+        let p = last i j hi hj ne .1 in
+        let q = last j i hj hi (λ e. ne (sym e)) .1 in
+        omega (
+          arith,
+          g,
+          c,
+          ap (λ (y : ℕ). bit y k) (p .1 .1),
+          ap (λ (y : ℕ). bit y k) (q .1 .1),
+          result-bit at j s _ k (p .1 .0 .1),
+          result-bit at i s _ k (q .1 .0 .1),
+          net-apart at s i k,
+          bit-digit (gives at s i) k,
+          bit-digit (gives at s j) k,
+          bit-digit (result (at i) m) k,
+          bit-digit (result (at j) n) k,
+        );
     needs = λ i j hi hj ne k h c.
-      let q = second i j hi hj ne in
-      omega (arith, q .1 .0 k h, c, result-bit at j s s k (q .0 .1), bit-digit s k, bit-digit (gives at s j) k);
+        let q = second i j hi hj ne in
+        omega (arith, q .1 .0 k h, c, result-bit at j s s k (q .0 .1), bit-digit s k, bit-digit (gives at s j) k);
     holds = λ i j hi hj ne e among f k h c.
-      let q = second i j hi hj ne in
-      let f′ = subst T (alike-at (at i .effects) s (result (at j) s) (q .1 .1) e among) f in
-      omega (arith, fires-inside (result (at j) s) e f′ k h, c, result-bit at j s s k (q .0 .1), bit-digit s k, bit-digit (gives at s j) k);
-    rests = rests }
+        let q = second i j hi hj ne in
+        let f′ = subst T (alike-at (at i .effects) s (result (at j) s) (q .1 .1) e among) f in
+        omega (arith, fires-inside (result (at j) s) e f′ k h, c, result-bit at j s s k (q .0 .1), bit-digit s k, bit-digit (gives at s j) k);
+    rests = rests;
+  }
 
   pub firm-ends : Ends at s step end
   firm-ends =
       let e = calm-ends at s step firm-calm lt in
       let o = order-of step lt in
       subst (λ (y : ℕ). Ends at s step y)
-        (runs-one at s (o .0) s (e .0) end (calm-every at s step firm-calm (e .0) (e .1) (o .0) (o .1)) (every (o .0) (o .1))) (e .1)
+      (runs-one at s (o .0) s (e .0) end (calm-every at s step firm-calm (e .0) (e .1) (o .0) (o .1)) (every (o .0) (o .1))) (e .1)
 
 -- ---- a part of a calm step is calm, and so a part of a firm step is firm
 
@@ -208,7 +236,8 @@ part-calm at s step part sub c = record {
   needs = λ i j hi hj. c .needs i j (sub i hi) (sub j hj);
   holds = λ i j hi hj. c .holds i j (sub i hi) (sub j hj);
   rests = λ i hi e among nf hyp. c .rests i (sub i hi) e among nf
-    (λ k h. elim (hyp k h) [ inl a ↦ inl a | inr g ↦ inr (g .0, sub (g .0) (g .1), g .2, g .3, g .4) ]) }
+      (λ k h. elim (hyp k h) [ inl a ↦ inl a | inr g ↦ inr (g .0, sub (g .0) (g .1), g .2, g .3, g .4) ]);
+}
 
 pub part-firm : (at : ℕ → Action) (s step part end : ℕ) → step < 2 ^ 64 → part < 2 ^ 64 → Inside part step
     → EveryOrder at s s step end → (end′ : ℕ) × EveryOrder at s s part end′

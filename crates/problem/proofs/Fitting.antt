@@ -46,9 +46,10 @@ problem-fits p =
       first = p .«named_first»;
       few-actions = p .sized .2;
       few-effects = λ k lt.
-        omega (arith, length-take (begins rows n (k + 1) - begins rows n k) (drop (begins rows n k) effects), p .sized .3 k lt);
+          omega (arith, length-take (begins rows n (k + 1) - begins rows n k) (drop (begins rows n k) effects), p .sized .3 k lt);
       preconditions = p .«named_preconditions»;
       effects = λ k lt e i.
-        let a = among-drop (begins rows n k) effects e (among-take (begins rows n (k + 1) - begins rows n k) (drop (begins rows n k) effects) e i) in
-        let r = among-at effects e a in
-        subst (λ (x : EffectRow). Within (p .atoms) (namesOf x)) (r .2) (p .«named_effects» (r .0) (r .1)) }
+          let a = among-drop (begins rows n k) effects e (among-take (begins rows n (k + 1) - begins rows n k) (drop (begins rows n k) effects) e i) in
+          let r = among-at effects e a in
+          subst (λ (x : EffectRow). Within (p .atoms) (namesOf x)) (r .2) (p .«named_effects» (r .0) (r .1));
+    }

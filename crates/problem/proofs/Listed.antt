@@ -34,23 +34,28 @@ drop-first k x xs ne (inr i) = i
 pub to-order : (seq : List ℕ) (step : ℕ) → OrderOf step seq → Order step seq
 to-order [] step l = same-members step 0 (λ k h. absurd (l .all k h)) (λ k h. absurd (let z : ⊥ = omega (arith, h, bit-none k) in z))
 to-order (x ∷ xs) step l =
-    let h : Has step x = l .only x (inl refl) in
-    (h, to-order xs (minus step (2 ^ x)) (record {
-      once = l .once .1;
-      all = λ k m. drop-first k x xs (left-other step x k m) (l .all k (left-in step x k m));
-      only = λ k i. left-has step x k (l .only k (inr i)) (λ e. l .once .0 (subst (λ (y : ℕ). In y xs) e i)) }))
+    let h : Has step x = l .only x (inl refl) in (
+      h,
+      to-order xs (minus step (2 ^ x)) (record {
+        once = l .once .1;
+        all = λ k m. drop-first k x xs (left-other step x k m) (l .all k (left-in step x k m));
+        only = λ k i. left-has step x k (l .only k (inr i)) (λ e. l .once .0 (subst (λ (y : ℕ). In y xs) e i));
+      }),
+    )
 
 pub from-order : (seq : List ℕ) (step : ℕ) → Order step seq → OrderOf step seq
 from-order [] step e = record {
   once = tt;
   all = λ k h. omega (arith, h, ap (λ (x : ℕ). bit x k) e, bit-none k);
-  only = λ k z. absurd z }
+  only = λ k z. absurd z;
+}
 from-order (x ∷ xs) step o =
     let l = from-order xs (minus step (2 ^ x)) (o .1) in
     record {
       once = (λ i. left-other step x x (l .only x i) refl, l .once);
       all = λ k h. elim (ℕ-discrete k x) [ yes e ↦ inl e | no ne ↦ inr (l .all k (left-has step x k h ne)) ];
-      only = λ k i. elim i [ inl e ↦ subst (λ (y : ℕ). Has step y) (sym e) (o .0) | inr j ↦ left-in step x k (l .only k j) ] }
+      only = λ k i. elim i [ inl e ↦ subst (λ (y : ℕ). Has step y) (sym e) (o .0) | inr j ↦ left-in step x k (l .only k j) ];
+    }
 
 -- so what holds along every order by members holds along every order by the first number, and the other way round
 pub every-firm : (at : ℕ → Action) (s step end : ℕ) → EveryOrder at s s step end → Firm at s step end

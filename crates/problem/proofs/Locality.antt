@@ -58,8 +58,12 @@ module _ (t : Task) (fits : Fits t) (s step : ℕ) (known : (k : ℕ) → Has st
 
   conditioned : (i : ℕ) (e : EffectRow) (k : ℕ) → Has step i → Among e (t .at i .effects) → Has (e .condition) k → k < 64
   conditioned i e k hi among h =
-      omega (arith, fits .few-atoms, fits .effects i (known i hi) e among k
-        (omega (arith, h, bit-or (bitOr (e .condition) (e .add)) (e .delete) k, bit-or (e .condition) (e .add) k, bit-digit (e .add) k, bit-digit (e .delete) k)))
+      omega (
+        arith,
+        fits .few-atoms,
+        fits .effects i (known i hi) e among k
+            (omega (arith, h, bit-or (bitOr (e .condition) (e .add)) (e .delete) k, bit-or (e .condition) (e .add) k, bit-digit (e .add) k, bit-digit (e .delete) k)),
+      )
 
   fires-low : (i : ℕ) → Has step i → (e : EffectRow) → Among e (t .at i .effects) → fires s e ≡ fires (low s) e
   fires-low i hi e among = same-tests (fires s e) (fires (low s) e)
@@ -102,8 +106,10 @@ module _ (t : Task) (fits : Fits t) (s step : ℕ) (known : (k : ℕ) → Has st
     needs = λ i j hi hj ne k h d. c .needs i j hi hj ne k h (cut-to j k hj d);
     holds = λ i j hi hj ne e among f k h d. c .holds i j hi hj ne e among (fire-to i hi e among f) k h (cut-to j k hj d);
     rests = λ i hi e among rest hyp. c .rests i hi e among (λ f. rest (fire-from i hi e among f)) (λ k h. elim (hyp k h) [
-        inl a ↦ inl (low-in s k a)
-      | inr g ↦ inr (g .0, g .1, g .2, (λ m hm d. g .3 m hm (cut-from (g .0) m (g .1) d)), give-to (g .0) k (g .1) (g .4)) ]) }
+      | inl a ↦ inl (low-in s k a)
+      | inr g ↦ inr (g .0, g .1, g .2, (λ m hm d. g .3 m hm (cut-from (g .0) m (g .1) d)), give-to (g .0) k (g .1) (g .4))
+    ]);
+  }
 
   pub low-calm : Calm (t .at) (low s) step → Calm (t .at) s step
   low-calm c = record {
@@ -112,8 +118,10 @@ module _ (t : Task) (fits : Fits t) (s step : ℕ) (known : (k : ℕ) → Has st
     needs = λ i j hi hj ne k h d. c .needs i j hi hj ne k h (cut-from j k hj d);
     holds = λ i j hi hj ne e among f k h d. c .holds i j hi hj ne e among (fire-from i hi e among f) k h (cut-from j k hj d);
     rests = λ i hi e among rest hyp. c .rests i hi e among (λ f. rest (fire-to i hi e among f)) (λ k h. elim (hyp k h) [
-        inl a ↦ inl (low-has s k (conditioned i e k hi among h) a)
-      | inr g ↦ inr (g .0, g .1, g .2, (λ m hm d. g .3 m hm (cut-to (g .0) m (g .1) d)), give-from (g .0) k (g .1) (g .4)) ]) }
+      | inl a ↦ inl (low-has s k (conditioned i e k hi among h) a)
+      | inr g ↦ inr (g .0, g .1, g .2, (λ m hm d. g .3 m hm (cut-to (g .0) m (g .1) d)), give-from (g .0) k (g .1) (g .4))
+    ]);
+  }
 
   -- what an action gives is an atom of the task
   given-below : (i k : ℕ) → Has step i → Has (gives (t .at) s i) k → k < 64
@@ -122,17 +130,23 @@ module _ (t : Task) (fits : Fits t) (s step : ℕ) (known : (k : ℕ) → Has st
       let added : Has (adds s es) k = omega (arith, h, bit-minus (adds s es) (deletes s es) k, bit-digit (adds s es) k) in
       let r = gather-from (λ e. e .add) s k es added in
       let e : EffectRow = r .0 in
-      omega (arith, fits .few-atoms, fits .effects i (known i hi) e (r .1) k
-        (omega (arith, r .3, bit-or (bitOr (e .condition) (e .add)) (e .delete) k, bit-or (e .condition) (e .add) k, bit-digit (e .condition) k, bit-digit (e .delete) k)))
+      omega (
+        arith,
+        fits .few-atoms,
+        fits .effects i (known i hi) e (r .1) k
+            (omega (arith, r .3, bit-or (bitOr (e .condition) (e .add)) (e .delete) k, bit-or (e .condition) (e .add) k, bit-digit (e .condition) k, bit-digit (e .delete) k)),
+      )
 
   pub ends-low : (end : ℕ) → Ends (t .at) s step end → Ends (t .at) (low s) step (low end)
   ends-low end d = record {
     source = λ k h. elim (d .source k (low-in end k h)) [
-        inl a ↦ inl (low-has s k (below-within 64 (low end) (low-lt end) k h) a)
-      | inr g ↦ inr (g .0, g .1, give-from (g .0) k (g .1) (g .2)) ];
+      | inl a ↦ inl (low-has s k (below-within 64 (low end) (low-lt end) k h) a)
+      | inr g ↦ inr (g .0, g .1, give-from (g .0) k (g .1) (g .2))
+    ];
     gone = λ j hj k c h. d .gone j hj k (cut-to j k hj c) (low-in end k h);
     stays = λ k h f. low-has end k (below-within 64 (low s) (low-lt s) k h) (d .stays k (low-in s k h) (λ j hj c. f j hj (cut-from j k hj c)));
-    given = λ j hj k h. low-has end k (given-below j k hj (give-to j k hj h)) (d .given j hj k (give-to j k hj h)) }
+    given = λ j hj k h. low-has end k (given-below j k hj (give-to j k hj h)) (d .given j hj k (give-to j k hj h));
+  }
 
 -- a step that is firm in a state is firm in its part below 64, and ends alike there
 pub firm-low : (t : Task) → Fits t → (s step end : ℕ) → FirmStep t s step end → FirmStep t (low s) step (low end)
@@ -142,7 +156,8 @@ firm-low t fits s step end f =
     record {
       allowed = f .allowed;
       firm = firm-by-sets (t .at) (low s) step (low end) (step-lt t s step end (fits .few-actions) f) .1
-        (calm-low t fits s step known (c .0), ends-low t fits s step known end (c .1)) }
+          (calm-low t fits s step known (c .0), ends-low t fits s step known end (c .1));
+    }
 
 -- and the other way round
 pub low-firm : (t : Task) → Fits t → (s step end : ℕ) → FirmStep t (low s) step end → (end′ : ℕ) × FirmStep t s step end′ × (low end′ ≡ end)
@@ -151,7 +166,8 @@ low-firm t fits s step end f =
     let known = f .allowed .known in
     let lt : step < 2 ^ 64 = step-lt t (low s) step end (fits .few-actions) f in
     let calm : Calm (t .at) s step = low-calm t fits s step known (c .0) in
-    let e = calm-ends (t .at) s step calm lt in
-    (e .0,
+    let e = calm-ends (t .at) s step calm lt in (
+      e .0,
       record { allowed = f .allowed; firm = firm-by-sets (t .at) s step (e .0) lt .1 (calm, e .1) },
-      ends-one (t .at) (low s) step (c .0) (low (e .0)) end (ends-low t fits s step known (e .0) (e .1)) (c .1))
+      ends-one (t .at) (low s) step (c .0) (low (e .0)) end (ends-low t fits s step known (e .0) (e .1)) (c .1),
+    )

@@ -29,8 +29,9 @@ no-effects-past rows effects k h =
 module _ (rows : List ActionRow) (n : ℕ) (placed : Placed rows n) where
   pub begins-up : (k : ℕ) → begins rows n k ≤ begins rows n (k + 1)
   begins-up k = elim (decLe (length rows) k) [
-      yes past ↦ omega (arith, begins-past rows n k past, begins-past rows n (k + 1) (omega arith))
-    | no below ↦ placed .1 k (omega arith) ]
+    | yes past ↦ omega (arith, begins-past rows n k past, begins-past rows n (k + 1) (omega arith))
+    | no below ↦ placed .1 k (omega arith)
+  ]
 
   begins-below : (d k : ℕ) → length rows ≤ k + d → begins rows n k ≤ n
   begins-below zero k h = omega (arith, begins-past rows n k (omega arith))

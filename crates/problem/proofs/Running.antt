@@ -27,7 +27,8 @@ use Rattle.problem.proofs.FirmCalm.{firm-calm, firm-ends, part-firm}
 pub firm-by-sets : Firm-by-sets
 firm-by-sets at s step end lt = (
   (λ f. let e = firm-every at s step end f in (firm-calm at s step end lt e, firm-ends at s step end lt e)),
-  λ c. every-firm at s step end (calm-every at s step (c .0) end (c .1)))
+  λ c. every-firm at s step end (calm-every at s step (c .0) end (c .1)),
+)
 
 -- a step of a task with at most 64 actions is a mask of 64 bits
 pub step-fits : (t : Task) (step : ℕ) → t .count ≤ 64 → ((k : ℕ) → Has step k → k < t .count) → step < 2 ^ 64
@@ -43,10 +44,13 @@ step-calm t s step end few f = firm-by-sets (t .at) s step end (step-lt t s step
 pub parts-firm : Parts-firm
 parts-firm t s step part end few sub f =
     let lt : step < 2 ^ 64 = step-lt t s step end few f in
-    let p = part-firm (t .at) s step part end lt (inside-lt part step sub lt) sub (firm-every (t .at) s step end (f .firm)) in
-    (p .0, record {
-      allowed = record { known = λ k h. f .allowed .known k (sub k h); few = omega (arith, f .allowed .few, ones-mono part step sub) };
-      firm = every-firm (t .at) s part (p .0) (p .1) })
+    let p = part-firm (t .at) s step part end lt (inside-lt part step sub lt) sub (firm-every (t .at) s step end (f .firm)) in (
+      p .0,
+      record {
+        allowed = record { known = λ k h. f .allowed .known k (sub k h); few = omega (arith, f .allowed .few, ones-mono part step sub) };
+        firm = every-firm (t .at) s part (p .0) (p .1);
+      },
+    )
 
 pub one-end : One-end
 one-end t s step end end′ few f g =
@@ -61,7 +65,8 @@ empty-order at s (k ∷ ks) o = absurd (not-in-none 0 k refl (o .only k (inl ref
 pub empty-firm : Empty-firm
 empty-firm t s = record {
   allowed = record { known = λ k h. absurd (not-in-none 0 k refl h); few = omega (arith, ones-le 0 0 (omega arith)) };
-  firm = empty-order (t .at) s }
+  firm = empty-order (t .at) s;
+}
 
 padded : (t : Task) (d k s : ℕ) → Run t k s → Run t (k + d) s
 padded t zero k s r = subst (λ (n : ℕ). Run t n s) (sym (add-zero k)) r
@@ -75,16 +80,23 @@ pub step-within : (t : Task) → Fits t → (s step end : ℕ) → Within (t .at
 step-within t fits s step end inside f k h =
     let ends : Ends (t .at) s step end = step-calm t s step end (fits .few-actions) f .1 in
     elim (ends .source k h) [
-      inl a ↦ inside k a
-    | inr g ↦ (
-        let j : ℕ = g .0 in
-        let es = t .at j .effects in
-        let added : Has (adds s es) k = omega (arith, g .2, bit-minus (adds s es) (deletes s es) k, bit-digit (adds s es) k) in
-        let r = gather-from (λ e. e .add) s k es added in
-        let e = r .0 in
-        fits .effects j (f .allowed .known j (g .1)) e (r .1) k
-          (omega (arith, r .3, bit-or (bitOr (e .condition) (e .add)) (e .delete) k, bit-or (e .condition) (e .add) k,
-            bit-digit (e .condition) k, bit-digit (e .delete) k))) ]
+      | inl a ↦ inside k a
+      | inr g ↦ (
+          let j : ℕ = g .0 in
+          let es = t .at j .effects in
+          let added : Has (adds s es) k = omega (arith, g .2, bit-minus (adds s es) (deletes s es) k, bit-digit (adds s es) k) in
+          let r = gather-from (λ e. e .add) s k es added in
+          let e = r .0 in
+          fits .effects j (f .allowed .known j (g .1)) e (r .1) k
+          (omega (
+            arith,
+            r .3,
+            bit-or (bitOr (e .condition) (e .add)) (e .delete) k,
+            bit-or (e .condition) (e .add) k,
+            bit-digit (e .condition) k,
+            bit-digit (e .delete) k,
+          )))
+    ]
 
 pub runs-within : Runs-within
 runs-within t fits _ _ start = fits .first
@@ -112,4 +124,5 @@ pub runs-listed : Runs-listed
 runs-listed t n s = (
   run-lists t n s,
   λ l. let e : 0 + length (l .0) ≡ n = omega (arith, l .1) in
-    subst (λ (x : ℕ). Run t x s) e (run-along t (l .0) 0 (t .first) s start (l .2)))
+      subst (λ (x : ℕ). Run t x s) e (run-along t (l .0) 0 (t .first) s start (l .2)),
+)

@@ -40,7 +40,7 @@ fit s es k h = fires-decides s (effectAt es k) .1 (h .1 _)
 module _ (part : EffectRow → ℕ) (s : ℕ) (es : List EffectRow) where
   here : (i : ℕ) → i < length es
       → gather part s (drop i es)
-        ≡ cond (fires s (effectAt es i)) (bitOr (part (effectAt es i)) (gather part s (drop (i + 1) es))) (gather part s (drop (i + 1) es))
+      ≡ cond (fires s (effectAt es i)) (bitOr (part (effectAt es i)) (gather part s (drop (i + 1) es))) (gather part s (drop (i + 1) es))
   here i lt = at-drop-more (gather part s) es i _ lt
 
   -- effects that do not fire are passed over
@@ -51,7 +51,7 @@ module _ (part : EffectRow → ℕ) (s : ℕ) (es : List EffectRow) where
       let lt : i < length es = omega arith in
       let e : i + 1 + d ≡ i + suc d = omega arith in
       let one : gather part s (drop i es) ≡ gather part s (drop (i + 1) es) =
-        rw (unfit s es i lt (f i (omega arith) (omega arith))) at (here i lt) in
+      rw (unfit s es i lt (f i (omega arith) (omega arith))) at (here i lt) in
       one ∙ passed d (i + 1) (omega arith) (λ k a b. f k (omega arith) (omega arith)) ∙ ap (λ (x : ℕ). gather part s (drop x es)) e
 
   to : (i j : ℕ) → i ≤ j → j ≤ length es → ((k : ℕ) → k < j → i ≤ k → Holds (Fits s) es k → ⊥)
@@ -67,7 +67,7 @@ module _ (part : EffectRow → ℕ) (s : ℕ) (es : List EffectRow) where
     gather-more i h =
         let lt : i < length es = h .1 .0 in
         let one : gather part s (drop i es) ≡ bitOr (part (effectAt es i)) (gather part s (drop (i + 1) es)) =
-          rw (fit s es i (h .1)) at (here i lt) in
+        rw (fit s es i (h .1)) at (here i lt) in
         or-assoc acc (part (effectAt es i)) (gather part s (drop (i + 1) es))
         ∙ ap (bitOr acc) (sym one) ∙ ap (bitOr acc) (sym (to from i (h .0) (omega arith) (h .2))) ∙ inv
 
@@ -75,9 +75,10 @@ module _ (part : EffectRow → ℕ) (s : ℕ) (es : List EffectRow) where
     pub gather-all : First (Fits s) es from None → acc ≡ gather part s es
     gather-all h =
         let none : gather part s (drop from es) ≡ 0 =
-          elim (decLe from (length es)) [
-            yes le ↦ to from (length es) le (omega arith) (λ k a b. h k b) ∙ at-drop-all (gather part s) es (length es) (omega arith)
-          | no gt ↦ at-drop-all (gather part s) es from (omega arith) ] in
+        elim (decLe from (length es)) [
+          | yes le ↦ to from (length es) le (omega arith) (λ k a b. h k b) ∙ at-drop-all (gather part s) es (length es) (omega arith)
+          | no gt ↦ at-drop-all (gather part s) es from (omega arith)
+        ] in
         sym (or-zero-r acc) ∙ ap (bitOr acc) (sym none) ∙ inv
 
 pub beq-apart : (x y : Bool) → not (Bool·beq x y) ≡ true → x ≡ y → ⊥

@@ -18,7 +18,7 @@ pub record Calm (at : ℕ → Action) (s step : ℕ) : Type 0 where
   pub needs : (i j : ℕ) → Has step i → Has step j → i ≢ j → Apart (at i .precondition) (cuts at s j)
   pub holds : (i j : ℕ) → Has step i → Has step j → i ≢ j → (e : EffectRow) → Among e (at i .effects) → T (fires s e) → Apart (e .condition) (cuts at s j)
   pub rests : (i : ℕ) → Has step i → (e : EffectRow) → Among e (at i .effects) → (T (fires s e) → ⊥)
-    → ((k : ℕ) → Has (e .condition) k → Has s k ⊎ Gets at s step i (e .condition) k) → ⊥
+      → ((k : ℕ) → Has (e .condition) k → Has s k ⊎ Gets at s step i (e .condition) k) → ⊥
 
 -- end has what s has and what an action of the step gives, but for what an action of the step deletes
 pub record Ends (at : ℕ → Action) (s step end : ℕ) : Type 0 where

@@ -16,7 +16,8 @@ use Rattle.problem.specs.declared.problem.Problem.{Problem}
 abbrev pub actionAt : List ActionRow → List EffectRow → ℕ → Action
 actionAt rows effects k = record {
   precondition = rowAt rows k .precondition;
-  effects = take (begins rows (length effects) (k + 1) - begins rows (length effects) k) (drop (begins rows (length effects) k) effects) }
+  effects = take (begins rows (length effects) (k + 1) - begins rows (length effects) k) (drop (begins rows (length effects) k) effects);
+}
 
 -- the task of these numbers and rows, and of a problem
 abbrev pub taskFrom : ℕ → ℕ → ℕ → List ActionRow → List EffectRow → Task

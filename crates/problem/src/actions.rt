@@ -32,7 +32,11 @@ impl<'a> Problem<'a> {
     pub fn precondition_of(&self, k: usize) -> u64
         ensures { λ r. ⌜ r ≡ taskOf (now (self .entry)) .at k .precondition ⌝ }
     {
-        if k < self.actions.len() { self.actions[k].precondition } else { 0 }
+        if k < self.actions.len() {
+            self.actions[k].precondition
+        } else {
+            0
+        }
     }
 }
 

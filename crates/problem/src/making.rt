@@ -17,7 +17,11 @@ use sets::within;
 pub(crate) fn begin(actions: &[ActionRow], n: usize, k: usize) -> usize
     ensures { λ r. ⌜ r ≡ begins (now (actions .entry)) n k ⌝ }
 {
-    if k < actions.len() { actions[k].first_effect } else { n }
+    if k < actions.len() {
+        actions[k].first_effect
+    } else {
+        n
+    }
 }
 
 // Whether the effects of the actions stand one action after the other, from the first effect to the last.
@@ -91,7 +95,13 @@ fn named(first: u64, actions: &[ActionRow], effects: &[EffectRow], m: u8) -> boo
 }
 
 // Whether numbers and rows are those of a problem, or the first reason why not.
-fn check_rows(atoms: u8, hands: u8, first: u64, actions: &[ActionRow], effects: &[EffectRow]) -> Result<(), Refusal>
+fn check_rows(
+    atoms: u8,
+    hands: u8,
+    first: u64,
+    actions: &[ActionRow],
+    effects: &[EffectRow],
+) -> Result<(), Refusal>
     ensures { λ r. ⌜ Cases r
         (λ _. Loads atoms hands first (now (actions .entry)) (now (effects .entry)))
         (λ e. Load-declines atoms hands first (now (actions .entry)) (now (effects .entry)) e) ⌝ }
@@ -113,18 +123,37 @@ impl<'a> Problem<'a> {
     pub fn blank() -> Problem<'a>
         ensures { λ r. ⌜ Consists r 1 1 0 [] [] ⌝ }
     {
-        Problem { atoms: 1, hands: 1, first: 0, actions: &[], effects: &[] }
+        Problem {
+            atoms: 1,
+            hands: 1,
+            first: 0,
+            actions: &[],
+            effects: &[],
+        }
     }
 
     // Becomes the problem of these numbers and rows; what they are not allowed to be is refused, and changes nothing.
-    pub fn load(&mut self, atoms: u8, hands: u8, first: u64, actions: &'a [ActionRow], effects: &'a [EffectRow]) -> Result<(), Refusal>
+    pub fn load(
+        &mut self,
+        atoms: u8,
+        hands: u8,
+        first: u64,
+        actions: &'a [ActionRow],
+        effects: &'a [EffectRow],
+    ) -> Result<(), Refusal>
         ensures { λ r. ⌜ Cases r
             (λ _. Loads atoms hands first (now (actions .entry)) (now (effects .entry))
-                × Consists (now (self .exit)) atoms hands first (now (actions .entry)) (now (effects .entry)))
+            × Consists (now (self .exit)) atoms hands first (now (actions .entry)) (now (effects .entry)))
             (λ e. Load-declines atoms hands first (now (actions .entry)) (now (effects .entry)) e × (now (self .exit) ≡ now (self .entry))) ⌝ }
     {
         check_rows(atoms, hands, first, actions, effects)?;
-        *self = Problem { atoms, hands, first, actions, effects };
+        *self = Problem {
+            atoms,
+            hands,
+            first,
+            actions,
+            effects,
+        };
         Ok(())
     }
 }

@@ -23,7 +23,7 @@ fn turn(problem: &Problem, start: u64, state: u64, action: usize) -> Option<u64>
     ensures { λ r. ⌜ BySome r
         (Turn (taskOf (now (problem .entry)) .at action) start state → ⊥)
         (λ next. Turn (taskOf (now (problem .entry)) .at action) start state
-            × next ≡ result (taskOf (now (problem .entry)) .at action) state) ⌝ }
+        × next ≡ result (taskOf (now (problem .entry)) .at action) state) ⌝ }
 {
     let effects = problem.effects_of(action);
     if inside(problem.precondition_of(action), state) && fire_alike(effects, start, state) {

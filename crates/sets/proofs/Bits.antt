@@ -43,14 +43,14 @@ bit-past (suc w) s (suc k) h le = rw bit-suc (bit-past w (s / 2) k (omega (arith
 pub empty-of : (b : ℕ) → ((k : ℕ) → bit b k ≡ 0) → b ≡ 0
 empty-of =
     bin-ind (λ b. ((k : ℕ) → bit b k ≡ 0) → b ≡ 0) (λ _. refl)
-      (λ n ih f. let h : n / 2 ≡ 0 = ih (λ k. sym (bit-suc n k) ∙ f (suc k)) in omega (arith, f 0, bit-zero n))
+    (λ n ih f. let h : n / 2 ≡ 0 = ih (λ k. sym (bit-suc n k) ∙ f (suc k)) in omega (arith, f 0, bit-zero n))
 
 pub same-bits : (a b : ℕ) → ((k : ℕ) → bit a k ≡ bit b k) → a ≡ b
 same-bits =
     bin-ind (λ a. (b : ℕ) → ((k : ℕ) → bit a k ≡ bit b k) → a ≡ b) (λ b f. sym (empty-of b (λ k. sym (f k) ∙ bit-none k)))
-      (λ n ih b f.
-        let h : n / 2 ≡ b / 2 = ih (b / 2) (λ k. sym (bit-suc n k) ∙ f (suc k) ∙ bit-suc b k) in
-        omega (arith, f 0, bit-zero n, bit-zero b))
+    (λ n ih b f.
+    let h : n / 2 ≡ b / 2 = ih (b / 2) (λ k. sym (bit-suc n k) ∙ f (suc k) ∙ bit-suc b k) in
+    omega (arith, f 0, bit-zero n, bit-zero b))
 
 digit-le : (x y : ℕ) → x < 2 → (x ≡ 1 → y ≡ 1) → x ≤ y
 digit-le zero y h f = omega arith
@@ -88,8 +88,9 @@ bit-minus a b (suc k) =
 pub and-not : (a b : ℕ) → a < 2 ^ 64 → b < 2 ^ 64 → bitAnd a (2 ^ 64 - 1 - b) ≡ minus a b
 and-not a b ha hb =
     same-bits _ _ (λ k. elim (decLe 64 k) [
-      yes past ↦ omega (arith, bit-and a (2 ^ 64 - 1 - b) k, bit-minus a b k, bit-past 64 a k ha past)
-    | no below ↦ omega (arith, bit-and a (2 ^ 64 - 1 - b) k, bit-minus a b k, bit-not 64 b k hb (omega arith), bit-digit a k) ])
+      | yes past ↦ omega (arith, bit-and a (2 ^ 64 - 1 - b) k, bit-minus a b k, bit-past 64 a k ha past)
+      | no below ↦ omega (arith, bit-and a (2 ^ 64 - 1 - b) k, bit-minus a b k, bit-not 64 b k hb (omega arith), bit-digit a k)
+    ])
 
 pub minus-le : (a b : ℕ) → minus a b ≤ a
 unfolding minus
@@ -123,4 +124,5 @@ has? s k = ℕ-discrete (bit s k) 1
 pub minus-marks : (a b : ℕ) → Marks (minus a b) (λ k. Has a k × (Has b k → ⊥))
 minus-marks a b = record {
   only = λ k h. (omega (arith, h, bit-minus a b k, bit-digit a k), λ hb. omega (arith, h, hb, bit-minus a b k, bit-digit a k));
-  all = λ k h. let n : Has b k → ⊥ = h .1 in omega (arith, h .0, bit-minus a b k, bit-digit b k) }
+  all = λ k h. let n : Has b k → ⊥ = h .1 in omega (arith, h .0, bit-minus a b k, bit-digit b k);
+}

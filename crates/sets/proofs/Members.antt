@@ -29,11 +29,12 @@ bit-other (suc j) (suc k) ne =
 pub minus-one : (s j : ℕ) → Has s j → minus s (2 ^ j) + 2 ^ j ≡ s
 minus-one s j h =
     let one : (k : ℕ) → bit (2 ^ j) k ≤ bit s k =
-      λ k. elim (ℕ-discrete k j) [
-        yes e ↦ rw e (omega (arith, h, bit-one j))
-      | no ne ↦ omega (arith, bit-other j k ne) ] in
+    λ k. elim (ℕ-discrete k j) [
+      | yes e ↦ rw e (omega (arith, h, bit-one j))
+      | no ne ↦ omega (arith, bit-other j k ne)
+    ] in
     let apart : bitAnd (minus s (2 ^ j)) (2 ^ j) ≡ 0 =
-      same-bits _ _ (λ k. omega (arith, bit-and (minus s (2 ^ j)) (2 ^ j) k, bit-minus s (2 ^ j) k, bit-digit s k, bit-digit (2 ^ j) k, bit-none k)) in
+    same-bits _ _ (λ k. omega (arith, bit-and (minus s (2 ^ j)) (2 ^ j) k, bit-minus s (2 ^ j) k, bit-digit s k, bit-digit (2 ^ j) k, bit-none k)) in
     sym (or-disjoint (minus s (2 ^ j)) (2 ^ j) apart)
     ∙ same-bits _ _ (λ k. omega (arith, bit-or (minus s (2 ^ j)) (2 ^ j) k, bit-minus s (2 ^ j) k, one k, bit-digit s k, bit-digit (2 ^ j) k))
 
@@ -66,12 +67,13 @@ low-step w s zero t e p h ih =
     let r = ih (omega arith) in
     let half : (s - 1) / 2 ≡ s / 2 - 1 = omega arith in
     let b : bitAnd s (s - 1) ≡ bitAnd (s / 2) (s / 2 - 1) * 2 + min (s % 2) ((s - 1) % 2) =
-      rw half at (and-step s (s - 1)) in
+    rw half at (and-step s (s - 1)) in
     record {
       under-w = omega (arith, r .under-w);
       member = bit-suc s t ∙ r .member;
       rest = omega (arith, b, pow-suc 2 t, r .rest);
-      none = low-even s t e (r .none) }
+      none = low-even s t e (r .none);
+    }
 low-step w s (suc d) t e p h ih =
     let half : (s - 1) / 2 ≡ s / 2 = omega arith in
     let b : bitAnd s (s - 1) ≡ bitAnd (s / 2) (s / 2) * 2 + min (s % 2) ((s - 1) % 2) = rw half at (and-step s (s - 1)) in
@@ -79,7 +81,8 @@ low-step w s (suc d) t e p h ih =
       under-w = omega arith;
       member = omega (arith, bit-zero s);
       rest = omega (arith, b, and-self (s / 2));
-      none = λ j z. absurd (let n : ⊥ = omega arith in n) }
+      none = λ j z. absurd (let n : ⊥ = omega arith in n);
+    }
 
 low : (w s : ℕ) → 0 < s → s < 2 ^ w → Low w s (trailingZeros w s)
 unfolding trailingZeros
@@ -120,17 +123,19 @@ bit-shift s n k = ap (λ (x : ℕ). x % 2) (shr-shr s n k)
 
 pub all-below : (s n : ℕ) → s / 2 ^ n ≡ 0 → (k : ℕ) → Has s k → k < n
 all-below s n e k h = elim (decLe n k) [
-    yes past ↦ absurd (
+  | yes past ↦ absurd (
       let j : ℕ = k - n in
       let i : n + j ≡ k = omega arith in
       let z : ⊥ = omega (arith, h, ap (λ (x : ℕ). bit s x) i, bit-shift s n j, ap (λ (x : ℕ). bit x j) e, bit-none j) in z)
-  | no below ↦ omega arith ]
+  | no below ↦ omega arith
+]
 
 pub below-all : (s n : ℕ) → ((k : ℕ) → Has s k → k < n) → s / 2 ^ n ≡ 0
 below-all s n f =
     empty-of (s / 2 ^ n) (λ k. elim (ℕ-discrete (bit s (n + k)) 1) [
-      yes h ↦ absurd (let z : ⊥ = omega (arith, f (n + k) h) in z)
-    | no h ↦ omega (arith, bit-shift s n k, bit-digit s (n + k)) ])
+      | yes h ↦ absurd (let z : ⊥ = omega (arith, f (n + k) h) in z)
+      | no h ↦ omega (arith, bit-shift s n k, bit-digit s (n + k))
+    ])
 
 -- a set below 2 ^ m has only members below m, and the other way round
 pub below-within : (m s : ℕ) → s < 2 ^ m → Within m s
@@ -151,8 +156,9 @@ none-marks P f = record { only = λ k h. absurd (not-in-none 0 k refl h); all = 
 -- to leave out a number past the mask leaves it as it is
 pub minus-past : (s j : ℕ) → s < 2 ^ 64 → 64 ≤ j → s ≡ minus s (2 ^ j)
 minus-past s j lt past = same-bits _ _ (λ k. elim (ℕ-discrete k j) [
-    yes e ↦ omega (arith, bit-minus s (2 ^ j) k, bit-past 64 s k lt (omega arith))
-  | no ne ↦ omega (arith, bit-minus s (2 ^ j) k, bit-other j k ne) ])
+  | yes e ↦ omega (arith, bit-minus s (2 ^ j) k, bit-past 64 s k lt (omega arith))
+  | no ne ↦ omega (arith, bit-minus s (2 ^ j) k, bit-other j k ne)
+])
 
 pub low-lowest : (s : ℕ) → 0 < s → s < 2 ^ 64 → Lowest s (trailingZeros 64 s)
 low-lowest s p h =
@@ -160,8 +166,10 @@ low-lowest s p h =
     record {
       member = r .member;
       least = λ j hj. elim (decLe (trailingZeros 64 s) j) [
-        yes le ↦ le
-      | no gt ↦ absurd (let z : ⊥ = omega (arith, hj, r .none j (omega arith)) in z) ] }
+        | yes le ↦ le
+        | no gt ↦ absurd (let z : ⊥ = omega (arith, hj, r .none j (omega arith)) in z)
+      ];
+    }
 
 -- a set has one lowest member
 pub lowest-one : (s j k : ℕ) → Lowest s j → Lowest s k → j ≡ k
@@ -171,16 +179,19 @@ pub rest-marks : (s : ℕ) → 0 < s → s < 2 ^ 64 → Marks (bitAnd s (s - 1))
 rest-marks s p h =
     let t : ℕ = trailingZeros 64 s in
     let bits : (k : ℕ) → bit (bitAnd s (s - 1)) k ≡ bit s k - bit (2 ^ t) k =
-      λ k. ap (λ (x : ℕ). bit x k) (low-rest s p h) ∙ bit-minus s (2 ^ t) k in
+    λ k. ap (λ (x : ℕ). bit x k) (low-rest s p h) ∙ bit-minus s (2 ^ t) k in
     record {
       only = λ k m. (
         omega (arith, m, bits k, bit-digit s k),
         λ l. let e : k ≡ t = lowest-one s k t l (low-lowest s p h) in
-          let one : Has (2 ^ t) k = subst (λ (x : ℕ). Has (2 ^ t) x) (sym e) (bit-one t) in
-          omega (arith, m, bits k, bit-digit s k, one));
+            let one : Has (2 ^ t) k = subst (λ (x : ℕ). Has (2 ^ t) x) (sym e) (bit-one t) in
+            omega (arith, m, bits k, bit-digit s k, one),
+      );
       all = λ k m. elim (ℕ-discrete k t) [
-          yes e ↦ absurd (m .1 (subst (λ (x : ℕ). Lowest s x) (sym e) (low-lowest s p h)))
-        | no ne ↦ omega (arith, m .0, bits k, bit-other t k ne) ] }
+        | yes e ↦ absurd (m .1 (subst (λ (x : ℕ). Lowest s x) (sym e) (low-lowest s p h)))
+        | no ne ↦ omega (arith, m .0, bits k, bit-other t k ne)
+      ];
+    }
 
 -- what `1 << j` is
 pub shift-one : (j : ℕ) → j < 64 → 1 * 2 ^ j % 18446744073709551616 ≡ 2 ^ j
@@ -190,9 +201,11 @@ shift-one j lt = omega (arith, one-fits j lt)
 pub single-marks : (j : ℕ) → j < 64 → Marks (2 ^ j) (λ k. (k ≡ j) × (k < 64))
 single-marks j lt = record {
   only = λ k h. elim (ℕ-discrete k j) [
-      yes e ↦ (e, omega (arith, e))
-    | no ne ↦ absurd (let z : ⊥ = omega (arith, h, bit-other j k ne) in z) ];
-  all = λ k h. subst (λ (x : ℕ). Has (2 ^ j) x) (sym (h .0)) (bit-one j) }
+    | yes e ↦ (e, omega (arith, e))
+    | no ne ↦ absurd (let z : ⊥ = omega (arith, h, bit-other j k ne) in z)
+  ];
+  all = λ k h. subst (λ (x : ℕ). Has (2 ^ j) x) (sym (h .0)) (bit-one j);
+}
 
 -- the set of all numbers below m
 pub all-marks : (m : ℕ) → Marks (2 ^ m - 1) (λ k. k < m)
@@ -201,7 +214,8 @@ all-marks m =
     record {
       only = below-within m (2 ^ m - 1) past;
       all = λ k lt. let e : 2 ^ m - 1 ≡ 2 ^ m - 1 - 0 = omega arith in
-        ap (λ (x : ℕ). bit x k) e ∙ omega (arith, bit-not m 0 k (pow-pos m) lt, bit-none k) }
+          ap (λ (x : ℕ). bit x k) e ∙ omega (arith, bit-not m 0 k (pow-pos m) lt, bit-none k);
+    }
 
 -- the size of a part
 pub ones-mono : (a b : ℕ) → Inside a b → ones a ≤ ones b
@@ -210,8 +224,15 @@ ones-mono a b f = by-halves a b (inside-le a b f)
     by-halves : (a b : ℕ) → ((k : ℕ) → bit a k ≤ bit b k) → ones a ≤ ones b
     by-halves =
         bin-ind (λ a. (b : ℕ) → ((k : ℕ) → bit a k ≤ bit b k) → ones a ≤ ones b) (λ b f. omega (arith, ones-le 0 0 (omega arith)))
-          (λ a ih b f. omega (arith, ones-step a, ones-step b, f 0, bit-zero a, bit-zero b,
-            ih (b / 2) (λ k. omega (arith, f (suc k), bit-suc a k, bit-suc b k))))
+        (λ a ih b f. omega (
+          arith,
+          ones-step a,
+          ones-step b,
+          f 0,
+          bit-zero a,
+          bit-zero b,
+          ih (b / 2) (λ k. omega (arith, f (suc k), bit-suc a k, bit-suc b k)),
+        ))
 
 pub inside-lt : (a b : ℕ) → Inside a b → b < 2 ^ 64 → a < 2 ^ 64
 inside-lt a b f h = omega (arith, inside-and a b f, and-le-r a b)

@@ -41,6 +41,7 @@ module _ {E : Type 0} (P : E → Type 0) where
 -- no more can be taken than there is
 pub take-min : {A : Type 0} (n : ℕ) (l : List A) → take (min n (length l)) l ≡ take n l
 take-min n l = elim (decLe n (length l)) [
-    yes le ↦ (let e : min n (length l) ≡ n = omega arith in ap (λ (x : ℕ). take x l) e)
+  | yes le ↦ (let e : min n (length l) ≡ n = omega arith in ap (λ (x : ℕ). take x l) e)
   | no gt ↦ (let e : min n (length l) ≡ length l = omega arith in
-      ap (λ (x : ℕ). take x l) e ∙ take-all (length l) l (omega arith) ∙ sym (take-all n l (omega arith))) ]
+      ap (λ (x : ℕ). take x l) e ∙ take-all (length l) l (omega arith) ∙ sym (take-all n l (omega arith)))
+]

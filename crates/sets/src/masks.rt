@@ -31,7 +31,11 @@ pub fn without(a: u64, b: u64) -> u64
 pub fn without_one(set: u64, member: u32) -> u64
     ensures { λ r. ⌜ r ≡ minus set (2 ^ member) ⌝ }
 {
-    if member < 64 { without(set, 1 << member) } else { set }
+    if member < 64 {
+        without(set, 1 << member)
+    } else {
+        set
+    }
 }
 
 // The set of one number, or the empty set where a mask has no such bit.
@@ -45,7 +49,11 @@ pub fn single(member: u32) -> u64
 pub fn lowest(set: u64) -> Option<u32>
     ensures { λ r. ⌜ BySome r (set ≡ 0) (λ k. Lowest set k) ⌝ }
 {
-    if set == 0 { None } else { Some(set.trailing_zeros()) }
+    if set == 0 {
+        None
+    } else {
+        Some(set.trailing_zeros())
+    }
 }
 
 // A set without its lowest member.

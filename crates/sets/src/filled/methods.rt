@@ -17,7 +17,11 @@ impl<'a, T: Copy> Filled<'a, T> {
         ensures taken { λ r. ⌜ taken r ≡ [] ⌝ }
         ensures lent { λ r. ⌜ name (r .rows) ≡ name (rows .entry) ⌝ }
     {
-        Filled { rows, most, count: 0 }
+        Filled {
+            rows,
+            most,
+            count: 0,
+        }
     }
 
     // How many entries are held.

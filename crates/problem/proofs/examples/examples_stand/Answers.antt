@@ -7,4 +7,5 @@ returns c = record {
   check = check-and-sweep;
   post = post-and-sweep;
   crossed = crossed-not-firm;
-  undone = undone-ends-without }
+  undone = undone-ends-without;
+}

@@ -8,11 +8,12 @@ pub loop-left-again : need.loop-left-again
 loop-left-again c = (
   still-in (c .loop-left .left) (c .args .step) (c .loop-left .inv .0) (omega arith) (c .loop-left-test .taken),
   λ end f. lowest-next (taskOf (c .args .problem .now) .at) (c .args .start) (c .loop-left .state) (c .loop-left .left) end
-    (c .state-after-state .result)
-    (left-lt (c .loop-left .left) (c .args .step) (c .loop-left .inv .0) (omega arith) (c .loop-left-test .taken))
-    (left-pos (c .loop-left .left) (c .args .step) (c .loop-left .inv .0) (omega arith) (c .loop-left-test .taken))
-    (rw (c .effects-of .ensures) at (c .state-after-state .ensures))
-    (c .loop-left .inv .1 end f))
+      (c .state-after-state .result)
+      (left-lt (c .loop-left .left) (c .args .step) (c .loop-left .inv .0) (omega arith) (c .loop-left-test .taken))
+      (left-pos (c .loop-left .left) (c .args .step) (c .loop-left .inv .0) (omega arith) (c .loop-left-test .taken))
+      (rw (c .effects-of .ensures) at (c .state-after-state .ensures))
+      (c .loop-left .inv .1 end f),
+)
 
 pub returns : need.returns
 returns c end f = none-complete (taskOf (c .args .problem .now) .at) (c .args .start) (c .loop-left .state) (c .loop-left .left) end (c .loop-left-test .left) (c .loop-left .inv .1 end f)

@@ -9,7 +9,7 @@ abbrev pub Inv-loop-left : given.InvT-loop-left
 Inv-loop-left l =
     Inside (l .left) (l .step)
     × ((end : ℕ) → EveryOrder (taskOf (l .problem) .at) (l .start) (l .start) (l .step) end
-        → EveryOrder (taskOf (l .problem) .at) (l .start) (l .state) (l .left) end)
+    → EveryOrder (taskOf (l .problem) .at) (l .start) (l .state) (l .left) end)
 
 abbrev pub μ-loop-left : given.MeasureT-loop-left
 μ-loop-left l = l .left

@@ -14,7 +14,8 @@ pub returns-then-action-problem : need.returns-then-action-problem
 returns-then-action-problem t c = record {
   bounds = (refl, refl);
   cases = grows-none (taskOf (c .args .problem .now)) (problem-fits (c .args .problem .now) .few-actions) (c .args .self .now) (c .args .from) (c .args .step)
-    (c .args .action) (c .pre) (c .if-action-problem .taken) }
+      (c .args .action) (c .pre) (c .if-action-problem .taken);
+}
 
 pub returns : need.returns
 returns t c =
@@ -31,17 +32,20 @@ returns t c =
     let ab : AlikeBounds a b = c .reach .ensures .bounds in
     let md : AlikeBounds m d = c .grow-2 .ensures .bounds in
     elim (c .if-branch .came) [
-      then-branch·in-Continue-grow w ↦ (
-        let e : Tree = w .grow .last .self in
-        let be : AlikeBounds b e = w .grow .ensures .bounds in
-        record {
-          bounds = alike-along a e d (alike-along a b e ab be) (subst (λ (x : Tree). AlikeBounds x d) (w .self-is) md);
-          cases = grows-with task few a i step action (c .single .result) wider (c .pre) refl (c .single .ensures) (c .if-action-problem .left) b e d ab be
-            (subst (λ (k : Bool). Reaches task a i wider k b) (w .if-branch .taken) (c .in-Continue-reach .ensures tt .cases))
-            (w .in-Continue-grow .ensures tt .cases)
-            (subst (λ (x : Tree). Grows task x i step (action + 1) d) (w .self-is) (c .in-Continue-grow-2 .ensures tt .cases)) })
-    | else-branch w ↦ record {
+      | then-branch·in-Continue-grow w ↦ (
+          let e : Tree = w .grow .last .self in
+          let be : AlikeBounds b e = w .grow .ensures .bounds in
+          record {
+            bounds = alike-along a e d (alike-along a b e ab be) (subst (λ (x : Tree). AlikeBounds x d) (w .self-is) md);
+            cases = grows-with task few a i step action (c .single .result) wider (c .pre) refl (c .single .ensures) (c .if-action-problem .left) b e d ab be
+                (subst (λ (k : Bool). Reaches task a i wider k b) (w .if-branch .taken) (c .in-Continue-reach .ensures tt .cases))
+                (w .in-Continue-grow .ensures tt .cases)
+                (subst (λ (x : Tree). Grows task x i step (action + 1) d) (w .self-is) (c .in-Continue-grow-2 .ensures tt .cases));
+          })
+      | else-branch w ↦ record {
         bounds = alike-along a b d ab (subst (λ (x : Tree). AlikeBounds x d) (w .self-is) md);
         cases = grows-without task few a i step action (c .single .result) wider (c .pre) refl (c .single .ensures) (c .if-action-problem .left) b d ab
-          (subst (λ (k : Bool). Reaches task a i wider k b) (w .if-branch .left) (c .in-Continue-reach .ensures tt .cases))
-          (subst (λ (x : Tree). Grows task x i step (action + 1) d) (w .self-is) (c .in-Continue-grow-2 .ensures tt .cases)) } ]
+            (subst (λ (k : Bool). Reaches task a i wider k b) (w .if-branch .left) (c .in-Continue-reach .ensures tt .cases))
+            (subst (λ (x : Tree). Grows task x i step (action + 1) d) (w .self-is) (c .in-Continue-grow-2 .ensures tt .cases));
+      }
+    ]
