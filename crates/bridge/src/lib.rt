@@ -1,0 +1,6 @@
+// What the benchmarks of bench/ call through the static library. These functions promise nothing beyond being safe and ending:
+// their answers are compared with those of plain Rust programs in the same run.
+mod random;
+mod review;
+
+pub use review::bridge_review;
