@@ -1,5 +1,7 @@
 //! Compares the proved library with plain Rust programs that do the same, in one run. Both give a checksum, which must agree.
+mod problem;
 mod review;
+mod trying;
 
 use std::time::Instant;
 
@@ -31,5 +33,6 @@ pub fn compare(name: &str, proved: impl FnMut() -> u64, plain: impl FnMut() -> u
 }
 
 fn main() {
+    trying::run();
     review::run();
 }

@@ -2,5 +2,7 @@
 // their answers are compared with those of plain Rust programs in the same run.
 mod random;
 mod review;
+mod trying;
 
 pub use review::bridge_review;
+pub use trying::bridge_try;
