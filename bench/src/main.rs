@@ -1,4 +1,5 @@
 //! Compares the proved library with plain Rust programs that do the same, in one run. Both give a checksum, which must agree.
+mod graph;
 mod problem;
 mod review;
 mod trying;
@@ -35,4 +36,5 @@ pub fn compare(name: &str, proved: impl FnMut() -> u64, plain: impl FnMut() -> u
 fn main() {
     trying::run();
     review::run();
+    graph::run();
 }

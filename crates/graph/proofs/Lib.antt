@@ -1,0 +1,12 @@
+pub mod Soundness
+pub mod Neighbours
+pub mod Fitting
+pub mod RowSets
+pub mod Sure
+pub mod Supporting
+pub mod Clashing
+pub mod Excluding
+pub mod Growing
+pub mod Answering
+pub mod Computing
+pub mod FirstLevels

@@ -1,0 +1,6 @@
+pub mod Levels
+pub mod Theorems
+pub mod Tables
+pub mod Graphs
+pub mod Questions
+pub mod Valuation

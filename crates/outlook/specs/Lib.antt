@@ -1,0 +1,4 @@
+pub mod Outlooks
+pub mod GraphViews
+pub mod GraphLaws
+pub mod OpenViews
