@@ -1,10 +1,10 @@
 -- The states of the entries, with one that is not among them.
-use mathlib.Core.Path.{_≡_, refl, sym, subst, ap, _∙_}
-use mathlib.Core.Logic.{_⊎_, inl, inr, ⊎-elim}
+use mathlib.Core.Path.{_≡_, sym, subst, ap, _∙_}
+use mathlib.Core.Logic.{inl, inr}
 use mathlib.Core.List.{List, [], _∷_, map}
-use Prim.Native.Nat.{ℕ, zero, suc, _+_, _<_, _≤_}
+use Prim.Native.Nat.{ℕ, suc, _<_, _≤_}
 use native.Mathlib.Omega.{arith}
-use lib.ListN.{length, getD}
+use lib.ListN.{length}
 use Rattle.std.proofs.shelf.Lists.{length-map, getD-default}
 use Rattle.problem.specs.Firm.{Task, In, Distinct}
 use Rattle.problem.specs.Runs.{Run}
@@ -26,8 +26,7 @@ different : (rows : List Reached) → ((i j : ℕ) → i < j → j < length rows
 different [] once = tt
 different (x ∷ rows) once = (
   (λ h. let r = state-at rows (x .state) h in once 0 (suc (r .0)) (omega arith) (omega (arith, r .1)) (sym (r .2))),
-  different rows (λ i j ord lt. once (suc i) (suc j) (omega arith) (omega arith)),
-)
+  different rows (λ i j ord lt. once (suc i) (suc j) (omega arith) (omega arith)))
 
 -- a full tree, and one state more
 pub crowded : (t : Task) (limit most : ℕ) (rows : List Reached) (k s : ℕ) → Grown t limit rows → length rows ≡ most → (Seen rows s → ⊥)
@@ -37,11 +36,8 @@ crowded t limit most rows k s g full fresh le run = record {
   more = omega (arith, length-map rows (λ (e : Reached). e .state));
   different = (
     (λ h. let r = state-at rows s h in fresh (r .0, (r .1, λ d. ap (λ (x : Reached). x .state) (getD-default rows (r .0) d _ (r .1)) ∙ r .2))),
-    different rows (g .once),
-  );
+    different rows (g .once));
   reached = λ x h. elim h [
-    | inl e ↦ (k, le, subst (λ (y : ℕ). Run t k y) (sym e) run)
+      inl e ↦ (k, le, subst (λ (y : ℕ). Run t k y) (sym e) run)
     | inr i ↦ (let r = state-at rows x i in
-        (entry rows (r .0) .depth, g .shallow (r .0) (r .1), subst (λ (y : ℕ). Run t (entry rows (r .0) .depth) y) (r .2) (entry-run t limit rows g (r .0) (r .1))))
-  ];
-}
+        (entry rows (r .0) .depth, g .shallow (r .0) (r .1), subst (λ (y : ℕ). Run t (entry rows (r .0) .depth) y) (r .2) (entry-run t limit rows g (r .0) (r .1)))) ] }

@@ -1,8 +1,8 @@
 -- What a breadth-first search knows once it has looked at the first entries.
-use mathlib.Core.Path.{_≡_, refl, sym, subst, ap, _∙_}
-use mathlib.Core.Logic.{_⊎_, inl, inr, ⊎-elim}
+use mathlib.Core.Path.{_≡_, refl, sym, subst}
+use mathlib.Core.Logic.{inr, ⊎-elim}
 use mathlib.Core.List.{List}
-use Prim.Native.Nat.{ℕ, suc, _+_, _<_, _≤_}
+use Prim.Native.Nat.{ℕ, _+_, _<_, _≤_}
 use native.Mathlib.Omega.{arith}
 use native.Mathlib.Decide.{ℕ-discrete}
 use lib.ListN.{length}
@@ -10,7 +10,7 @@ use Rattle.std.proofs.shelf.Tests.{cases-lt}
 use Rattle.sets.proofs.Members.{not-in-none}
 use Rattle.problem.specs.Firm.{Task, FirmStep}
 use Rattle.problem.specs.Runs.{Run, start, more, Goal, Meets, Unreached}
-use Rattle.plain.specs.Trees.{entry, Grown, Known, Front, LeadTo}
+use Rattle.plain.specs.Trees.{entry, Known, LeadTo}
 use Rattle.plain.specs.Growth.{rows-of, TreeOf, Growing, AlikeBounds, Grows}
 use Rattle.plain.specs.Searches.{Solves}
 use Rattle.plain.specs.declared.reached.Reached.{Reached}
@@ -39,8 +39,7 @@ module _ (t : Task) (g : Goal) where
     reaches = omega arith;
     ahead = λ _. w .ahead;
     followed = λ i lt. absurd (let z : ⊥ = omega arith in z);
-    unmet = λ i lt. absurd (let z : ⊥ = omega arith in z);
-  }
+    unmet = λ i lt. absurd (let z : ⊥ = omega arith in z) }
 
   module _ (a : Tree) (next : ℕ) (x : Explored t g a next) where
     pub explored-growing : next < length (rows-of a) → Growing t a next
@@ -54,7 +53,7 @@ module _ (t : Task) (g : Goal) where
         let k = known-run d le before n b (omega arith) run in
         let j : ℕ = k .0 in
         let r = x .followed j (before j (k .1) (omega (arith, k .3))) (omega (arith, k .3)) step end
-        (subst (λ (y : ℕ). FirmStep t y step end) (sym (k .2)) f) in
+          (subst (λ (y : ℕ). FirmStep t y step end) (sym (k .2)) f) in
         (r .0, r .1, r .2, omega (arith, r .3, k .3))
 
     -- and so does not meet the goal, if all entries as deep as it was long were looked at
@@ -74,14 +73,13 @@ module _ (t : Task) (g : Goal) where
         let deep : ℕ = entry (rows-of a) next .depth in
         let shallow = x .sound .grown .shallow next lt in
         let before : (j : ℕ) → j < length (rows-of a) → entry (rows-of a) j .depth < deep → j < next =
-        λ j l′ less. ⊎-elim (λ b. b) (λ ge. absurd (let z : ⊥ = omega (arith, x .sound .grown .rising next j ge l′) in z)) (cases-lt j next) in
+          λ j l′ less. ⊎-elim (λ b. b) (λ ge. absurd (let z : ⊥ = omega (arith, x .sound .grown .rising next j ge l′) in z)) (cases-lt j next) in
         record {
           end = entry (rows-of a) next .state;
           leads = l .0;
           meets = meets;
           within = omega (arith, l .1);
-          shortest = λ k s less run. unmet-run deep shallow before k s (omega (arith, l .1)) (λ j l′ le. before j l′ (omega (arith, l .1))) run;
-        }
+          shortest = λ k s less run. unmet-run deep shallow before k s (omega (arith, l .1)) (λ j l′ le. before j l′ (omega (arith, l .1))) run }
 
     module _ (few : t .count ≤ 64) (b : Tree) (lt : next < length (rows-of a)) (alike : AlikeBounds a b) (w : Grows t a next 0 0 b) where
       -- an entry stays followed
@@ -92,13 +90,12 @@ module _ (t : Task) (g : Goal) where
       -- and now next is: by the empty step it leads to itself
       here : Followed t (b .limit) (rows-of b) (entry (rows-of b) next)
       here = rw (alike .0) (rw (w .1 next lt .1) (λ room step end firm. elim (ℕ-discrete step 0) [
-        | yes e ↦ (
+          yes e ↦ (
             let s : ℕ = entry (rows-of a) next .state in
             let same : s ≡ end = one-end t s 0 s end few (empty-firm t s) (subst (λ (y : ℕ). FirmStep t s y end) e firm) in
             subst (λ (y : ℕ). Known (rows-of b) y (entry (rows-of a) next .depth + 1)) same
-            (known-front (rows-of a) (rows-of b) s _ (w .1) (known-entry (rows-of a) next _ lt (omega arith))))
-        | no ne ↦ w .2 room step end ((λ k h. absurd (not-in-none 0 k refl h)), (λ k h. inr (omega arith)), ne) firm
-      ]))
+              (known-front (rows-of a) (rows-of b) s _ (w .1) (known-entry (rows-of a) next _ lt (omega arith))))
+        | no ne ↦ w .2 room step end ((λ k h. absurd (not-in-none 0 k refl h)), (λ k h. inr (omega arith)), ne) firm ]))
 
       pub explored-more : (Meets g (entry (rows-of a) next .state) → ⊥) → Explored t g b (next + 1)
       explored-more unmet = record {
@@ -107,11 +104,10 @@ module _ (t : Task) (g : Goal) where
         reaches = omega (arith, w .0 .known);
         ahead = λ l j m. omega (arith, w .0 .ahead j m, w .0 .sound .grown .rising next (next + 1) (omega arith) l);
         followed = λ i l. ⊎-elim
-            (λ old. still i (omega arith) (x .followed i old))
-            (λ ge. (let e : next ≡ i = omega arith in subst (λ (y : ℕ). Followed t (b .limit) (rows-of b) (entry (rows-of b) y)) e here))
-            (cases-lt i next);
+          (λ old. still i (omega arith) (x .followed i old))
+          (λ ge. (let e : next ≡ i = omega arith in subst (λ (y : ℕ). Followed t (b .limit) (rows-of b) (entry (rows-of b) y)) e here))
+          (cases-lt i next);
         unmet = λ i l. ⊎-elim
-            (λ old. rw (w .1 i (omega arith) .1) (x .unmet i old))
-            (λ ge. (let e : i ≡ next = omega arith in rw e (rw (w .1 next lt .1) unmet)))
-            (cases-lt i next);
-      }
+          (λ old. rw (w .1 i (omega arith) .1) (x .unmet i old))
+          (λ ge. (let e : i ≡ next = omega arith in rw e (rw (w .1 next lt .1) unmet)))
+          (cases-lt i next) }

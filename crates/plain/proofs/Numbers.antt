@@ -1,6 +1,6 @@
 -- Numbers written one behind the other.
-use mathlib.Core.Path.{_≡_, refl, sym, subst, ap, _∙_}
-use mathlib.Core.List.{List, [], _∷_, _++_, append-assoc}
+use mathlib.Core.Path.{_≡_, subst, ap, _∙_}
+use mathlib.Core.List.{List, _∷_, _++_, append-assoc}
 use Prim.Native.Nat.{ℕ, _^_}
 use lib.Chars.{codes}
 use Rattle.std.specs.Written.{decimal}

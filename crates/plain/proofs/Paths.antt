@@ -1,13 +1,13 @@
 -- The way back from an entry to the first state, read forward.
-use mathlib.Core.Path.{_≡_, refl, sym, subst, ap, _∙_}
+use mathlib.Core.Path.{_≡_, refl, sym, subst}
 use mathlib.Core.List.{List, [], _∷_, _++_}
-use Prim.Native.Nat.{ℕ, _+_, _<_}
+use Prim.Native.Nat.{ℕ, _<_}
 use native.Mathlib.Omega.{arith}
 use lib.ListN.{length, getD}
 use Rattle.std.proofs.shelf.Lists.{length-push}
 use Rattle.problem.specs.Firm.{Task, FirmStep}
 use Rattle.problem.specs.Runs.{Leads}
-use Rattle.plain.specs.Trees.{entry, Branch, Grown, LeadTo}
+use Rattle.plain.specs.Trees.{entry, Branch, LeadTo}
 use Rattle.plain.specs.declared.reached.Reached.{Reached}
 use Rattle.plain.proofs.Trees.{entry-read}
 

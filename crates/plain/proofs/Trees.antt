@@ -1,16 +1,16 @@
 -- What is known of the entries stays known when one more is put behind them.
-use mathlib.Core.Path.{_≡_, refl, sym, subst, ap, _∙_}
+use mathlib.Core.Path.{_≡_, refl, sym, ap, _∙_}
 use mathlib.Core.Logic.{_⊎_, inl, inr, ⊎-elim}
 use mathlib.Core.List.{List, [], _∷_, _++_}
-use Prim.Native.Nat.{ℕ, zero, suc, _+_, _<_, _≤_}
+use Prim.Native.Nat.{ℕ, zero, suc, _<_, _≤_}
 use native.Mathlib.Omega.{arith}
 use native.Mathlib.Numerals.{add-one}
 use lib.ListN.{length, getD}
 use Rattle.std.proofs.shelf.Lists.{length-push, getD-push, getD-append-left, getD-default}
 use Rattle.std.proofs.shelf.Tests.{cases-lt}
-use Rattle.problem.specs.Firm.{Task, FirmStep}
+use Rattle.problem.specs.Firm.{Task}
 use Rattle.problem.specs.Runs.{Run, start, more}
-use Rattle.plain.specs.Trees.{entry, Root, Branch, Grown, Seen, Known, Front}
+use Rattle.plain.specs.Trees.{entry, Branch, Grown, Seen, Known, Front}
 use Rattle.plain.specs.declared.reached.Reached.{Reached}
 
 -- an entry as it is read
@@ -40,8 +40,7 @@ grown-none t limit = record {
   branch = λ i pos lt. absurd (let z : ⊥ = omega arith in z);
   shallow = λ i lt. absurd (let z : ⊥ = omega arith in z);
   rising = λ i j ord lt. absurd (let z : ⊥ = omega arith in z);
-  once = λ i j ord lt. absurd (let z : ⊥ = omega arith in z);
-}
+  once = λ i j ord lt. absurd (let z : ⊥ = omega arith in z) }
 
 module _ (rows : List Reached) (e : Reached) where
   entry-old : (i : ℕ) → i < length rows → entry (rows ++ e ∷ []) i ≡ entry rows i
@@ -73,29 +72,28 @@ module _ (rows : List Reached) (e : Reached) where
     rising i j ord lt = ⊎-elim
         (λ old. rw (entry-old i (omega arith)) (rw (entry-old j old) (g .rising i j ord old)))
         (λ new. rw (entry-new j new) (⊎-elim
-        (λ before. rw (entry-old i before) (deepest i before))
-        (λ same. rw (entry-new i same) (omega arith))
-        (place i (omega arith))))
+          (λ before. rw (entry-old i before) (deepest i before))
+          (λ same. rw (entry-new i same) (omega arith))
+          (place i (omega arith))))
         (place j lt)
 
     once : (i j : ℕ) → i < j → j < length (rows ++ e ∷ []) → entry (rows ++ e ∷ []) i .state ≡ entry (rows ++ e ∷ []) j .state → ⊥
     once i j ord lt = ⊎-elim
         (λ old. rw (entry-old i (omega arith)) (rw (entry-old j old) (g .once i j ord old)))
         (λ new. rw (entry-new j new) (rw (entry-old i (omega arith)) (λ same.
-        fresh (i, (omega arith, λ d. ap (λ (x : Reached). x .state) (getD-default rows i d _ (omega arith)) ∙ same)))))
+          fresh (i, (omega arith, λ d. ap (λ (x : Reached). x .state) (getD-default rows i d _ (omega arith)) ∙ same)))))
         (place j lt)
 
     pub grown-push : Grown t limit (rows ++ e ∷ [])
     grown-push = record {
       root = λ _. rw (entry-old 0 (omega (arith, b .earlier))) (g .root (omega (arith, b .earlier)));
       branch = λ i pos lt. ⊎-elim
-          (λ old. rw (entry-old i old) (branch-old t i (entry rows i) (omega arith) (g .branch i pos old)))
-          (λ new. rw (entry-new i new) (rw new (branch-old t (length rows) e (omega arith) b)))
-          (place i lt);
+        (λ old. rw (entry-old i old) (branch-old t i (entry rows i) (omega arith) (g .branch i pos old)))
+        (λ new. rw (entry-new i new) (rw new (branch-old t (length rows) e (omega arith) b)))
+        (place i lt);
       shallow = λ i lt. ⊎-elim (λ old. rw (entry-old i old) (g .shallow i old)) (λ new. rw (entry-new i new) le) (place i lt);
       rising = rising;
-      once = once;
-    }
+      once = once }
 
 -- an entry is the end of a firm run as long as it is deep
 module _ (t : Task) (limit : ℕ) (rows : List Reached) (g : Grown t limit rows) where

@@ -47,14 +47,7 @@ fn met(need: u64, avoid: u64, state: u64) -> bool
 }
 
 // Looks at the reached states one after the other, and grows the tree out of each that does not meet the goal.
-fn explore(
-    heap: Global,
-    problem: &Problem,
-    need: u64,
-    avoid: u64,
-    limit: u8,
-    most: usize,
-) -> Result<Found, Stop>
+fn explore(heap: Global, problem: &Problem, need: u64, avoid: u64, limit: u8, most: usize) -> Result<Found, Stop>
     ensures { λ r. ⌜ Cases r
         (λ found. Answers (taskOf (now (problem .entry))) (goal need avoid) limit most found)
         (λ stop. Stops (taskOf (now (problem .entry))) limit most stop) ⌝ }
@@ -73,17 +66,10 @@ fn explore(
 
 // Searches for a firm run of at most `limit` steps that ends in a state holding all of `need` and nothing of `avoid`, and
 // remembers at most `most` states.
-pub fn search(
-    heap: Global,
-    problem: &Problem,
-    need: u64,
-    avoid: u64,
-    limit: u8,
-    most: usize,
-) -> Result<Found, Fault>
+pub fn search(heap: Global, problem: &Problem, need: u64, avoid: u64, limit: u8, most: usize) -> Result<Found, Fault>
     ensures { λ r. ⌜ Cases r
         (λ found. Asked (taskOf (now (problem .entry))) (goal need avoid) limit
-        × Answers (taskOf (now (problem .entry))) (goal need avoid) limit most found)
+            × Answers (taskOf (now (problem .entry))) (goal need avoid) limit most found)
         (λ fault. Fails (taskOf (now (problem .entry))) (goal need avoid) limit fault) ⌝ }
 {
     check(problem, need, avoid, limit)?;

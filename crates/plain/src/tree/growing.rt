@@ -58,27 +58,13 @@ impl Tree {
     }
 
     // The tree that has only the first state.
-    pub(crate) fn planted(
-        heap: Global,
-        problem: &Problem,
-        limit: u8,
-        most: usize,
-    ) -> Result<Tree, Stop>
+    pub(crate) fn planted(heap: Global, problem: &Problem, limit: u8, most: usize) -> Result<Tree, Stop>
         ensures { λ r. ⌜ Cases r
             (λ tree. Growing (taskOf (now (problem .entry))) tree 0 × (tree .limit ≡ limit) × (tree .most ≡ most))
             (λ stop. Stops (taskOf (now (problem .entry))) limit most stop) ⌝ }
     {
-        let mut tree = Tree {
-            reached: Vec::new(heap),
-            limit,
-            most,
-        };
-        tree.remember(Reached {
-            state: problem.first,
-            from: 0,
-            step: 0,
-            depth: 0,
-        })?;
+        let mut tree = Tree { reached: Vec::new(heap), limit, most };
+        tree.remember(Reached { state: problem.first, from: 0, step: 0, depth: 0 })?;
         Ok(tree)
     }
 
@@ -87,11 +73,7 @@ impl Tree {
         ensures { λ r. ⌜ BySome r (length (rows-of (now (self .entry))) ≤ i)
             (λ s. (i < length (rows-of (now (self .entry)))) × (s ≡ entry (rows-of (now (self .entry))) i .state)) ⌝ }
     {
-        if i < self.reached.len() {
-            Some(self.reached[i].state)
-        } else {
-            None
-        }
+        if i < self.reached.len() { Some(self.reached[i].state) } else { None }
     }
 
     // Takes a step out of the entry `from`, unless that lies at the limit, and remembers where it ends; whether it was taken.
@@ -109,24 +91,13 @@ impl Tree {
         let Some(state) = firm_end(problem, before.state, step) else {
             return Ok(false);
         };
-        self.remember(Reached {
-            state,
-            from,
-            step,
-            depth: before.depth + 1,
-        })?;
+        self.remember(Reached { state, from, step, depth: before.depth + 1 })?;
         Ok(true)
     }
 
     // Takes out of the entry `from` each firm step that has `step` and, besides, only actions from `action` on. A part of a firm
     // step is firm, so only firm steps are made wider.
-    pub(crate) fn grow(
-        &mut self,
-        problem: &Problem,
-        from: usize,
-        step: u64,
-        action: u32,
-    ) -> Result<(), Stop>
+    pub(crate) fn grow(&mut self, problem: &Problem, from: usize, step: u64, action: u32) -> Result<(), Stop>
         requires { ⌜ Growing (taskOf (now problem)) (now self) from ⌝ }
         ensures bounds { λ _. ⌜ AlikeBounds (now (self .entry)) (now (self .exit)) ⌝ }
         ensures cases { λ r. ⌜ Cases r
