@@ -1,0 +1,11 @@
+pub mod Reaching
+pub mod Counting
+pub mod Opening
+pub mod Searching
+pub mod Listing
+pub mod Storing
+pub mod Answering
+pub mod Turning
+pub mod Agreeing
+pub mod Falling
+pub mod Exampling
