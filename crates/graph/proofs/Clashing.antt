@@ -11,7 +11,8 @@ use Rattle.std.proofs.shelf.Lists.{getD-set-same, getD-set-other}
 use Rattle.sets.specs.Sets.{Has, Marks}
 use Rattle.problem.specs.Firm.{Task}
 use Rattle.graph.specs.Levels.{Level, Node, action, noop, Needs, SureDelete, Hurts, Rivals, Clash}
-use Rattle.graph.specs.Tables.{row, Uses, MovesOf, Touches, Meet, NodesOf}
+use Rattle.graph.specs.Turning.{row}
+use Rattle.graph.specs.Tables.{Uses, MovesOf, Touches, Meet, NodesOf}
 use Rattle.graph.specs.declared.table.Moves.{Moves}
 use Rattle.graph.specs.declared.table.Nodes.{Nodes}
 use Rattle.graph.proofs.RowSets.{or-l, or-r, or-either, one-is, one-has}

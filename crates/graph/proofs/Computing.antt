@@ -19,7 +19,8 @@ use Rattle.problem.specs.Actions.{Among}
 use Rattle.problem.specs.Firm.{Task}
 use Rattle.problem.specs.declared.rows.EffectRow.{EffectRow}
 use Rattle.graph.specs.Levels.{Level, action, noop, next, Same, Together, Supports, Supported, Clash, Excludes}
-use Rattle.graph.specs.Tables.{row, Meet, MovesOf, Touches, NodesOf, Stopped, Beaten}
+use Rattle.graph.specs.Turning.{row}
+use Rattle.graph.specs.Tables.{Meet, MovesOf, Touches, NodesOf, Stopped, Beaten}
 use Rattle.graph.specs.Graphs.{has}
 use Rattle.graph.specs.declared.table.Moves.{Moves}
 use Rattle.graph.proofs.RowSets.{or-l, or-r, or-either, and-l, and-r, and-both, met, row-lt}

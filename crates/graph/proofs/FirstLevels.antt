@@ -17,7 +17,8 @@ use Rattle.problem.specs.Actions.{Among, adds, deletes}
 use Rattle.problem.specs.Problems.{Fits}
 use Rattle.problem.specs.declared.rows.EffectRow.{EffectRow}
 use Rattle.graph.specs.Levels.{Level, action, next, level, Same, Needs, SureAdd, SureDelete}
-use Rattle.graph.specs.Tables.{row, Both, Uses, MovesOf}
+use Rattle.graph.specs.Turning.{row, Both}
+use Rattle.graph.specs.Tables.{Uses, MovesOf}
 use Rattle.graph.specs.Valuation.{valuation, First-levels, Pair}
 use Rattle.graph.specs.declared.table.Moves.{Moves}
 use Rattle.graph.proofs.Neighbours.{joined, turned, next-same}

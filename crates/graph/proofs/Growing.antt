@@ -14,7 +14,8 @@ use Rattle.sets.proofs.Members.{not-in-none}
 use Rattle.problem.specs.Firm.{Task}
 use Rattle.problem.specs.Problems.{Fits}
 use Rattle.graph.specs.Levels.{Level, action, next, level, Same, Supported, Excludes}
-use Rattle.graph.specs.Tables.{row, SupportsOf, levelOf}
+use Rattle.graph.specs.Turning.{row}
+use Rattle.graph.specs.Tables.{SupportsOf, levelOf}
 use Rattle.graph.specs.Graphs.{factsAt, rowAt, levelIn}
 use Rattle.graph.specs.declared.layer.Layer.{Layer}
 use Rattle.graph.specs.declared.graph.Graph.{Graph}

@@ -15,7 +15,8 @@ use Rattle.std.proofs.shelf.Ways.{decides-like, decides-not}
 use Rattle.sets.specs.Sets.{bit, Has, Inside, Apart, Marks}
 use Rattle.sets.proofs.Bits.{bit-none, bit-or, bit-and, bit-minus, bit-digit, and-apart, has?}
 use Rattle.sets.proofs.Members.{bit-other, low-has, low-rest, has-lt, not-in-none}
-use Rattle.graph.specs.Tables.{row, Meet}
+use Rattle.graph.specs.Turning.{row, Turned}
+use Rattle.graph.specs.Tables.{Meet}
 
 pub or-l : (a b k : ℕ) → Has a k → Has (bitOr a b) k
 or-l a b k h = omega (arith, h, bit-or a b k, bit-digit b k)
@@ -144,3 +145,22 @@ pub no-rows : (n k : ℕ) → row (replicate n 0) k ≡ 0
 no-rows zero k = refl
 no-rows (suc n) zero = refl
 no-rows (suc n) (suc k) = no-rows n k
+
+-- a row of the turned relation: which rows have the number f
+pub turned-row : (rows : List ℕ) (r one f : ℕ) → f < 64 → Marks one (λ j. (j ≡ f) × (j < 64)) → Marks r (λ k. Meet (row rows k) one) → (k : ℕ) → bit r k ≡ bit (row rows k) f
+turned-row rows r one f lt o m k =
+    same-digits (bit r k) (bit (row rows k) f) (bit-digit r k) (bit-digit (row rows k) f)
+      (λ h. let c = m .only k h in subst (λ (x : ℕ). Has (row rows k) x) (one-is one f (c .0) o (c .2)) (c .1))
+      (λ h. m .all k (f, h, one-has one f o lt))
+  where
+    same-digits : (x y : ℕ) → x < 2 → y < 2 → (x ≡ 1 → y ≡ 1) → (y ≡ 1 → x ≡ 1) → x ≡ y
+    same-digits zero zero lx ly p q = refl
+    same-digits zero (suc y) lx ly p q = absurd (let z : ⊥ = omega (arith, q (omega arith)) in z)
+    same-digits (suc x) zero lx ly p q = absurd (let z : ⊥ = omega (arith, p (omega arith)) in z)
+    same-digits (suc x) (suc y) lx ly p q = omega arith
+
+-- the union of the rows of a set, turned: the rows that meet it
+pub turned-marks : (others rows : List ℕ) (r set : ℕ) → Turned others rows → Marks r (λ j. (f : ℕ) × Has set f × Has (row others f) j) → Marks r (λ j. Meet (row rows j) set)
+turned-marks others rows r set e m = record {
+  only = λ j h. let c = m .only j h in (c .0, sym (e (c .0) j) ∙ c .2, c .1);
+  all = λ j h. m .all j (h .0, h .2, e (h .0) j ∙ h .1) }

@@ -1,5 +1,6 @@
 pub mod Levels
 pub mod Theorems
+pub mod Turning
 pub mod Tables
 pub mod Graphs
 pub mod Questions

@@ -3,18 +3,14 @@ use mathlib.Core.Logic.{_⊎_}
 use mathlib.Core.List.{List}
 use Prim.Native.Nat.{ℕ, _<_, _≤_}
 use denote.Ref.{now}
-use lib.ListN.{getD}
 use Rattle.sets.specs.Sets.{Has, Marks}
 use Rattle.problem.specs.Firm.{Task}
+use Rattle.graph.specs.Turning.{row, Both}
 use Rattle.graph.specs.Levels.{Level, Node, action, noop, Needs, SureAdd, SureDelete, Supports, Clash}
 use Rattle.graph.specs.declared.layer.Layer.{Layer}
 use Rattle.graph.specs.declared.table.Moves.{Moves}
 use Rattle.graph.specs.declared.table.Clashes.{Clashes}
 use Rattle.graph.specs.declared.table.Nodes.{Nodes}
-
--- the row k
-abbrev pub row : List ℕ → ℕ → ℕ
-row rows k = getD rows k 0
 
 -- the level that a layer stands for
 abbrev pub levelOf : Layer → Level
@@ -42,10 +38,6 @@ Meet a b = (f : ℕ) × Has a f × Has b f
 -- the action j uses of deletes, surely deletes of uses, or needs of barred
 abbrev pub Touches : Moves → ℕ → ℕ → ℕ → ℕ → Type 0
 Touches m uses deletes barred j = Meet (row (m .uses) j) deletes ⊎ (Meet (row (m .deletes) j) uses ⊎ Meet (row (m .needs) j) barred)
-
--- each follows from the other
-abbrev pub Both : Type 0 → Type 0 → Type 0
-Both A B = (A → B) × (B → A)
 
 -- the nodes are those of which P holds
 pub record NodesOf (t : Task) (P : Node → Type 0) (s : Nodes) : Type 0 where

@@ -9,7 +9,7 @@ use Rattle.problem.specs.Problems.{actionAt}
 use Rattle.problem.specs.declared.rows.ActionRow.{ActionRow}
 use Rattle.problem.specs.declared.rows.EffectRow.{EffectRow}
 use Rattle.graph.specs.Levels.{level, ClosesAt}
-use Rattle.graph.specs.Tables.{Both}
+use Rattle.graph.specs.Turning.{Both}
 
 -- check needs 0 and adds 1; post needs 1 and adds 4; sweep needs 0, deletes 0, and if 2 holds adds 3 and deletes 2
 abbrev pub rows : List ActionRow

@@ -4,7 +4,8 @@ ghost use Prim.Native.Nat.{ℕ};
 ghost use lib.ListN.{length};
 ghost use Rattle.std.specs.Orderings.{Decides};
 ghost use Rattle.sets.specs.Sets.{Has, Marks};
-ghost use Rattle.graph.specs.Tables.{row, Meet};
+ghost use Rattle.graph.specs.Turning.{row, Turned};
+ghost use Rattle.graph.specs.Tables.{Meet};
 use sets::apart;
 use sets::single;
 
@@ -55,4 +56,15 @@ pub(crate) fn meeting(rows: &[u64], set: u64) -> u64
         }
     }
     all
+}
+
+// The rows of a relation the other way round.
+pub(crate) fn turned(rows: &[u64; 64]) -> [u64; 64]
+    ensures { λ r. ⌜ Turned r (now (rows .entry)) ⌝ }
+{
+    let mut others = [0; 64];
+    for k in 0..64 {
+        others[k] = meeting(rows, single(k as u32));
+    }
+    others
 }

@@ -4,6 +4,8 @@ ghost use Rattle.sets.specs.Sets.{Marks};
 ghost use Rattle.problem.specs.Problems.{taskOf};
 ghost use Rattle.graph.specs.Levels.{action as act, SureAdd, SureDelete};
 ghost use Rattle.graph.specs.Tables.{MovesOf};
+use crate::masks::turned;
+use crate::table::Links;
 use crate::table::Moves;
 use problem::Change;
 use problem::Problem;
@@ -27,7 +29,7 @@ fn sure_change(problem: &Problem, index: usize) -> Change
 }
 
 // What each action needs, uses and surely deletes.
-pub(crate) fn moves_of(problem: &Problem) -> Moves
+fn moves_of(problem: &Problem) -> Moves
     ensures { λ r. ⌜ MovesOf (taskOf (now (problem .entry))) r ⌝ }
 {
     let mut needs = [0; 64];
@@ -41,4 +43,15 @@ pub(crate) fn moves_of(problem: &Problem) -> Moves
         deletes[index] = change.delete;
     }
     Moves { needs, uses, deletes }
+}
+
+// The moves, and for each atom the actions that need it, use it and surely delete it.
+pub(crate) fn links_of(problem: &Problem) -> Links
+    ensures { λ r. ⌜ MovesOf (taskOf (now (problem .entry))) (r .moves) ⌝ }
+{
+    let moves = moves_of(problem);
+    let needers = turned(&moves.needs);
+    let users = turned(&moves.uses);
+    let deleters = turned(&moves.deletes);
+    Links { moves, needers, users, deleters }
 }

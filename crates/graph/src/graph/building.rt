@@ -6,15 +6,16 @@ ghost use Rattle.sets.specs.Sets.{Marks};
 ghost use Rattle.problem.specs.Firm.{Task};
 ghost use Rattle.problem.specs.Problems.{taskOf};
 ghost use Rattle.graph.specs.Levels.{level, Same, Supported, Excludes};
-ghost use Rattle.graph.specs.Tables.{row, MovesOf, SupportsOf};
+ghost use Rattle.graph.specs.Turning.{row};
+ghost use Rattle.graph.specs.Tables.{MovesOf, SupportsOf};
 ghost use Rattle.graph.specs.Graphs.{factsAt, rowAt, levelIn, GraphOf};
 use crate::exclusion::next_exclusions;
 use crate::exclusion::next_facts;
 use crate::graph::Graph;
 use crate::layer::Layer;
-use crate::moves::moves_of;
+use crate::moves::links_of;
 use crate::support::supports_of;
-use crate::table::Moves;
+use crate::table::Links;
 use problem::Problem;
 
 // Writes the 64 rows of level `n`.
@@ -63,16 +64,16 @@ impl Graph {
     }
 
     // Finds the exclusions of level `n` + 1, whose facts stand already.
-    fn find_exclusions(&mut self, n: usize, moves: &Moves, supports: &[u64; 64])
+    fn find_exclusions(&mut self, n: usize, links: &Links, supports: &[u64; 64])
         requires { ⌜ n < 32 ⌝ }
-        ensures found { λ _. ⌜ ((t : Task) → MovesOf t (now (moves .entry)) → SupportsOf t (levelIn (now (self .entry)) n) (now (supports .entry))
+        ensures found { λ _. ⌜ ((t : Task) → MovesOf t (now (links .entry) .moves) → SupportsOf t (levelIn (now (self .entry)) n) (now (supports .entry))
             → Marks (factsAt (now (self .entry)) (n + 1)) (Supported t (levelIn (now (self .entry)) n))
             → (f : ℕ) → f < 64 → Marks (rowAt (now (self .exit)) (n + 1) f) (Excludes t (levelIn (now (self .entry)) n) f)) ⌝ }
         ensures others { λ _. ⌜ ((k a : ℕ) → k ≢ n + 1 → a < 64 → rowAt (now (self .exit)) k a ≡ rowAt (now (self .entry)) k a) ⌝ }
         ensures facts { λ _. ⌜ now (self .exit) .facts ≡ now (self .entry) .facts ⌝ }
         ensures atoms { λ _. ⌜ now (self .exit) .atoms ≡ now (self .entry) .atoms ⌝ }
     {
-        let rows = next_exclusions(moves, &self.layer(n), supports, self.facts[n + 1]);
+        let rows = next_exclusions(links, &self.layer(n), supports, self.facts[n + 1]);
         put_rows(&mut self.exclusive, n + 1, &rows);
     }
 
@@ -80,12 +81,12 @@ impl Graph {
     pub fn build(problem: &Problem) -> Graph
         ensures { λ r. ⌜ GraphOf (taskOf (now (problem .entry))) r ⌝ }
     {
-        let moves = moves_of(problem);
+        let links = links_of(problem);
         let mut graph = Graph::begin(problem);
         for n in 0..32 {
             let supports = supports_of(problem, &graph.layer(n));
             graph.find_facts(n, &supports);
-            graph.find_exclusions(n, &moves, &supports);
+            graph.find_exclusions(n, &links, &supports);
         }
         graph
     }

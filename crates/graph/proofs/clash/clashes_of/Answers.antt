@@ -12,7 +12,7 @@ pub loop-index-again : need.loop-index-again
 loop-index-again c =
     ( length-set (c .loop-index .actions) (c .loop-index .index) _ ∙ c .loop-index .inv .0,
       length-set (c .loop-index .noops) (c .loop-index .index) _ ∙ c .loop-index .inv .1,
-      fill-both (λ k x. (t : Task) → MovesOf t (c .args .moves .now) → k < t .count → NodesOf t (Clash t (levelOf (c .args .layer .now)) (action k)) x)
+      fill-both (λ k x. (t : Task) → MovesOf t (c .args .links .now .moves) → k < t .count → NodesOf t (Clash t (levelOf (c .args .layer .now)) (action k)) x)
         (c .loop-index .actions) (c .loop-index .noops) (c .loop-index .index) (c .clashing-nodes .result)
         (omega (arith, c .loop-index .inv .0, c .loop-index-test .taken)) (omega (arith, c .loop-index .inv .1, c .loop-index-test .taken))
         (c .loop-index .inv .2) (c .clashing-nodes .ensures) )

@@ -1,5 +1,6 @@
 use Rattle.graph.specs.Levels.{action, noop}
-use Rattle.graph.specs.Tables.{row, levelOf}
+use Rattle.graph.specs.Turning.{row}
+use Rattle.graph.specs.Tables.{levelOf}
 use Rattle.graph.proofs.Excluding.{beaten-both}
 use Rattle.graph.proofs.exclusion.beaten.Needs as need
 

@@ -1,7 +1,8 @@
 use native.Mathlib.Omega.{arith}
 use mathlib.Core.Path.{refl}
 use Rattle.std.proofs.shelf.Tests.{false≢true}
-use Rattle.graph.specs.Tables.{row, levelOf}
+use Rattle.graph.specs.Turning.{row}
+use Rattle.graph.specs.Tables.{levelOf}
 use Rattle.graph.proofs.Excluding.{excluded, none-excluded, self-marks}
 use Rattle.graph.proofs.exclusion.exclusive_with.Needs as need
 

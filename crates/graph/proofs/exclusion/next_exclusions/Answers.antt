@@ -13,7 +13,7 @@ use Rattle.graph.proofs.exclusion.next_exclusions.Needs as need
 pub loop-atom-again : need.loop-atom-again
 loop-atom-again c =
     ( length-set (c .loop-atom .rows) (c .loop-atom .atom) _ ∙ c .loop-atom .inv .0,
-      fill-more (λ f x. (t : Task) → MovesOf t (c .args .moves .now) → SupportsOf t (levelOf (c .args .layer .now)) (c .args .supports .now)
+      fill-more (λ f x. (t : Task) → MovesOf t (c .args .links .now .moves) → SupportsOf t (levelOf (c .args .layer .now)) (c .args .supports .now)
           → Marks (c .args .facts) (Supported t (levelOf (c .args .layer .now))) → Marks x (Excludes t (levelOf (c .args .layer .now)) f))
         (c .loop-atom .rows) (c .loop-atom .atom) (c .exclusive-with .result) (omega (arith, c .loop-atom .inv .0, c .loop-atom-test .taken)) (c .loop-atom .inv .1)
         (λ t ms sup marks. c .exclusive-with .ensures t ms sup (c .clashes-of-clashes .ensures t ms) marks) )

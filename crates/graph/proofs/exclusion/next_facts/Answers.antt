@@ -1,5 +1,6 @@
 use native.Mathlib.Omega.{arith}
-use Rattle.graph.specs.Tables.{row, levelOf}
+use Rattle.graph.specs.Turning.{row}
+use Rattle.graph.specs.Tables.{levelOf}
 use Rattle.graph.proofs.RowSets.{row-lt}
 use Rattle.graph.proofs.Excluding.{facts-marks, self-marks}
 use Rattle.graph.proofs.exclusion.next_facts.Needs as need

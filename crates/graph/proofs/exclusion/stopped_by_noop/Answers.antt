@@ -10,4 +10,4 @@ returns-then-not-has c t ms = unstopped t (levelOf (c .args .layer .now)) (c .ar
 pub returns : need.returns
 returns c t ms =
     stopped t (levelOf (c .args .layer .now)) (c .args .atom) (c .single-one .result) _ (c .pre) (c .single-one .ensures) (self-marks _)
-      (c .args .moves .now) ms (c .if-not-has .ensures tt .0 refl) _ _ (c .touching .ensures) (c .without .ensures .members)
+      (c .args .links .now .moves) ms (c .if-not-has .ensures tt .0 refl) _ _ (c .touching .ensures) (c .without .ensures .members)

@@ -1,6 +1,7 @@
 use Prim.Native.Nat.{ℕ, _<_}
 use Rattle.sets.specs.Sets.{Has}
-use Rattle.graph.specs.Tables.{row, Meet}
+use Rattle.graph.specs.Turning.{row}
+use Rattle.graph.specs.Tables.{Meet}
 use Rattle.graph.proofs.masks.meeting.Given as given
 
 abbrev pub Inv-loop-k : given.InvT-loop-k

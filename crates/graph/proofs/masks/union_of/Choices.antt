@@ -1,7 +1,7 @@
 use mathlib.Core.Logic.{_⊎_}
 use Prim.Native.Nat.{ℕ}
 use Rattle.sets.specs.Sets.{Has, Inside}
-use Rattle.graph.specs.Tables.{row}
+use Rattle.graph.specs.Turning.{row}
 use Rattle.graph.proofs.masks.union_of.Given as given
 
 abbrev pub Inv-loop-left : given.InvT-loop-left

@@ -4,7 +4,8 @@ use lib.ListN.{length}
 use Rattle.sets.specs.Sets.{Marks}
 use Rattle.problem.specs.Problems.{taskOf}
 use Rattle.graph.specs.Levels.{action, Needs, SureDelete}
-use Rattle.graph.specs.Tables.{row, Uses}
+use Rattle.graph.specs.Turning.{row}
+use Rattle.graph.specs.Tables.{Uses}
 use Rattle.graph.proofs.moves.moves_of.Given as given
 
 abbrev pub Inv-loop-index : given.InvT-loop-index

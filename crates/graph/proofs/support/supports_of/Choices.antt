@@ -4,7 +4,8 @@ use lib.ListN.{length}
 use Rattle.sets.specs.Sets.{Marks}
 use Rattle.problem.specs.Problems.{taskOf}
 use Rattle.graph.specs.Levels.{action, Supports}
-use Rattle.graph.specs.Tables.{row, levelOf}
+use Rattle.graph.specs.Turning.{row}
+use Rattle.graph.specs.Tables.{levelOf}
 use Rattle.graph.proofs.support.supports_of.Given as given
 
 abbrev pub Inv-loop-index : given.InvT-loop-index

@@ -30,7 +30,7 @@ loop-n-again c =
     let kept = facts-kept t fits n g g₁ g₂ (c .loop-n .inv .1) found (c .find-facts .ensures .others) (c .find-facts .ensures .rows) n (omega arith) in
     ( c .find-exclusions .ensures .atoms ∙ c .find-facts .ensures .atoms ∙ c .loop-n .inv .0,
       grown t fits n g g₁ g₂ (c .loop-n .inv .1) found (c .find-facts .ensures .others) (c .find-facts .ensures .rows)
-        (c .find-exclusions .ensures .found t (c .moves-of-moves .ensures) (supports-over t (levelIn g n) (levelIn g₁ n) kept rows sup)
+        (c .find-exclusions .ensures .found t (c .links-of-links .ensures) (supports-over t (levelIn g n) (levelIn g₁ n) kept rows sup)
           (facts-stand t fits n g g₁ g₂ (c .loop-n .inv .1) found (c .find-facts .ensures .others) (c .find-facts .ensures .rows)))
         (c .find-exclusions .ensures .others) (c .find-exclusions .ensures .facts) )
 

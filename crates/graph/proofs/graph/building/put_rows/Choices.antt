@@ -2,7 +2,7 @@ use mathlib.Core.Path.{_≡_}
 use mathlib.Core.Logic.{_≢_}
 use Prim.Native.Nat.{ℕ, _+_, _*_, _<_}
 use lib.ListN.{length, getD}
-use Rattle.graph.specs.Tables.{row}
+use Rattle.graph.specs.Turning.{row}
 use Rattle.graph.proofs.graph.building.put_rows.Given as given
 
 abbrev pub Inv-loop-atom : given.InvT-loop-atom

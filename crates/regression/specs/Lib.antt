@@ -1,0 +1,9 @@
+pub mod Regions
+pub mod Spans
+pub mod Matters
+pub mod Verdicts
+pub mod Doings
+pub mod Reaching
+pub mod Nodes
+pub mod Stacks
+pub mod Roots

@@ -1,0 +1,31 @@
+// Regression: which positions a step makes due below an open position.
+mod calm;
+mod dismissal;
+mod doing;
+mod effects;
+mod expand;
+mod found;
+mod goal;
+mod hurt;
+mod idle;
+mod joining;
+mod judge;
+mod next;
+mod node;
+mod opening;
+mod region;
+mod rest;
+mod shrink;
+mod summing;
+mod totals;
+mod verdict;
+
+pub use dismissal::Dismissal;
+pub use found::Due;
+pub use found::Found;
+pub use found::Part;
+pub use next::ROOM;
+pub use next::next_due;
+pub use node::Node;
+pub use opening::begin_work;
+pub use region::Region;

@@ -1,0 +1,13 @@
+pub mod Bytes
+pub mod Faults
+pub mod Records
+pub mod Texts
+pub mod Readings
+pub mod Misfits
+pub mod Counting
+pub mod Filling
+pub mod Calls
+pub mod Inputs
+pub mod Laws
+pub mod Writings
+pub mod Appending
