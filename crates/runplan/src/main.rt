@@ -1,16 +1,20 @@
 // Reads a problem and questions from standard input, and answers each question in turn.
-use plain::Fault;
-use plain::Found;
-use plain::search;
+use claim::Outcome;
+use claim::Report;
+use outlook::ByGraph;
+use outlook::GraphOutlook;
 use plain::step_line;
+use planner::Teller;
+use planner::plan;
 use problem::ActionRow;
 use problem::EffectRow;
 use problem::Problem;
-use problem::Refusal;
 use sets::Filled;
-use std::alloc::AllocError;
 use std::io;
 use std::io::Read;
+use store::Keeper;
+use store::KeeperStore;
+use store::KeptRow;
 use text::ProgramFault;
 use text::Question;
 use text::Taken;
@@ -20,11 +24,8 @@ use text::read_input;
 // The most bytes of input.
 const MOST: usize = 32_768;
 
-// The most states that the search remembers.
-const STATES: usize = 20_000;
-
-// The largest budget that can be asked for.
-const BUDGET: u32 = 1_000_000;
+// The rows of the keeper.
+const ROWS: usize = 2_000;
 
 // Fills `text` from standard input as far as it goes, and answers how many bytes there were.
 fn fill(rt: &LibcRuntime, text: &mut [u8]) -> io::Result<usize> {
@@ -59,43 +60,39 @@ fn print_plan(rt: &LibcRuntime, steps: &[u64]) -> io::Result<()> {
     Ok(())
 }
 
-// Prints what was found for a question.
-fn print_found(rt: &LibcRuntime, question: Question, found: Found) -> io::Result<()> {
-    match found {
-        Found::Plan(steps) => print_plan(rt, &steps),
-        Found::NotWithin => println!(rt, "not-within {}", question.limit),
-        Found::Full => println!(rt, "spent {}", question.budget),
+// Prints the answer to a question.
+fn print_report(rt: &LibcRuntime, question: Question, report: Report, list: &[u64]) -> io::Result<()> {
+    match report.outcome {
+        Outcome::Plan => {
+            let count = list.len().min(report.steps as usize);
+            print_plan(rt, &list[0..count])
+        }
+        Outcome::Never => println!(rt, "never"),
+        Outcome::NotWithin => println!(rt, "not-within {}", question.limit),
+        Outcome::Spent => println!(rt, "spent {}", question.budget),
     }
 }
 
-// Prints that a question is refused.
-fn print_refused(rt: &LibcRuntime, refusal: Refusal) -> io::Result<()> {
-    println!(rt, "refused {}", refusal.number())
-}
-
-// Searches for a run for a question, and prints the answer. The budget is looked at after the goal and the limit.
-fn answer(rt: &LibcRuntime, problem: &Problem, question: Question) -> io::Result<()> {
+// Plans for a question, and prints the answer.
+fn answer(rt: &LibcRuntime, outlook: &GraphOutlook, keeper: &mut Keeper<Teller>, question: Question) -> io::Result<()> {
+    let mut list = [0; 32];
     let Question { need, avoid, limit, budget } = question;
-    match search(rt.alloc(), problem, need, avoid, limit, STATES) {
-        Err(Fault::Declined(refusal)) => print_refused(rt, refusal),
-        Err(Fault::NoMemory) => Err(AllocError.into()),
-        Ok(found) => {
-            if budget > BUDGET {
-                print_refused(rt, Refusal::BadBudget)
-            } else {
-                print_found(rt, question, found)
-            }
-        }
+    match plan(outlook, keeper, need, avoid, limit, budget, &mut list) {
+        Ok(report) => print_report(rt, question, report, &list),
+        Err(refusal) => println!(rt, "refused {}", refusal.number()),
     }
 }
 
 // Answers the questions from `at` on, up to the end of the text or the first fault.
 fn answer_all(rt: &LibcRuntime, problem: &Problem, text: &[u8], at: usize) -> io::Result<()> {
+    let outlook = GraphOutlook::new(*problem);
+    let mut rows = [KeptRow { level: 0, need: 0, avoid: 0 }; ROWS];
+    let mut keeper = Keeper::over(&mut rows);
     let mut next = at;
     for _question in 0..MOST {
         match next_question(text, next) {
             Ok(Some(asked)) => {
-                answer(rt, problem, asked.question)?;
+                answer(rt, &outlook, &mut keeper, asked.question)?;
                 next = asked.next;
             }
             Ok(None) => break,
@@ -110,7 +107,7 @@ fn answer_rows<'a>(rt: &LibcRuntime, text: &[u8], taken: Taken, actions: &'a [Ac
     let mut problem = Problem::blank();
     match problem.load(taken.atoms, taken.hands, taken.first, actions, effects) {
         Ok(()) => answer_all(rt, &problem, text, taken.bytes),
-        Err(refusal) => print_refused(rt, refusal),
+        Err(refusal) => println!(rt, "refused {}", refusal.number()),
     }
 }
 

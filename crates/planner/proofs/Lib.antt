@@ -1,0 +1,11 @@
+pub mod Reviewing
+pub mod Seeking
+pub mod Moves
+pub mod Closing
+pub mod Written
+pub mod Answered
+pub mod Holding
+pub mod Beginning
+pub mod Taking
+pub mod Coming
+pub mod Rounds

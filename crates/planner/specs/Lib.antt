@@ -1,0 +1,5 @@
+pub mod Questions
+pub mod Paths
+pub mod Frames
+pub mod Endings
+pub mod Works
