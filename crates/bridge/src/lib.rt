@@ -1,3 +1,4 @@
+#![tactic(auto)]
 // What the benchmarks of bench/ call through the static library. These functions promise nothing beyond being safe and ending:
 // their answers are compared with those of plain Rust programs in the same run.
 mod dismissing;

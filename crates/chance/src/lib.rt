@@ -1,3 +1,4 @@
+#![tactic(auto)]
 // Numbers that look like chance and are the same in every run, and problems drawn by them.
 mod drawing;
 mod numbers;

@@ -1,3 +1,4 @@
+#![tactic(auto)]
 // The law of a search, lists of turns on one store, and the claim that holds of every such list.
 ghost use Rattle.claim.specs.Claim.{RunsAreLists, EveryListOfTurns};
 ghost use Rattle.claim.specs.Agree.{StoresAgree};

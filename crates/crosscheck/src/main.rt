@@ -1,3 +1,4 @@
+#![tactic(auto)]
 // What the planner answers, against the plain search: the model valuation, a binary count and problems drawn by chance, under both
 // outlooks, on a keeper with many rows, a keeper with few rows and a bare store.
 mod agreeing;

@@ -1,3 +1,4 @@
+#![tactic(auto)]
 // The planning graph of a problem.
 mod asking;
 mod clash;

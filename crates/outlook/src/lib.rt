@@ -1,3 +1,4 @@
+#![tactic(auto)]
 // Outlooks: which pairs of atoms no firm run of so many steps can reach together.
 mod graph_outlook;
 mod needs;

@@ -1,3 +1,4 @@
+#![tactic(auto)]
 // The planner: plan, review and clear, the calls on one store of which the claim holds.
 mod asked;
 mod asking;

@@ -1,3 +1,4 @@
+#![tactic(auto)]
 // Problems: actions with conditional effects, what they do, and which steps are firm.
 mod actions;
 mod effect;

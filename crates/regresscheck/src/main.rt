@@ -1,3 +1,4 @@
+#![tactic(auto)]
 // What regression answers, against brute force: small problems drawn by chance, all states, all steps.
 mod asked;
 mod asking;

@@ -1,3 +1,4 @@
+#![tactic(auto)]
 // Regression: which positions a step makes due below an open position.
 mod calm;
 mod dismissal;

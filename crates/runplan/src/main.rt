@@ -1,3 +1,4 @@
+#![tactic(auto)]
 // Reads a problem and questions from standard input, and answers each question in turn.
 use claim::{Outcome, Report};
 use outlook::GraphOutlook;

@@ -1,5 +1,5 @@
 -- Members of a mask, bit by bit: `omega` reads these laws.
-use Rattle.std.proofs.Common.{◌≡◌, ℕ, zero, suc, ◌+◌, ◌-◌, ◌*◌, ◌/◌, ◌%◌, ◌^◌, ◌<◌, ◌≤◌, min, max, ◌≢◌, sym, refl, ap, ◌∙◌, mul_comm, pow-suc, arith}
+use Rattle.std.proofs.Common.{◌≡◌, ℕ, zero, suc, ◌-◌, ◌/◌, ◌%◌, ◌^◌, ◌<◌, ◌≤◌, min, max, sym, refl, ap, ◌∙◌, mul_comm, pow-suc, arith}
 use native.Mathlib.Nat.{div-div-eq-div-mul, zero-div}
 use native.Mathlib.Decide.{dec_le, ℕ_discrete}
 use lib.Arith.{bin_ind}

@@ -1,9 +1,9 @@
 -- One member of a mask, the lowest, and how many there are.
-use Rattle.std.proofs.Common.{◌≡◌, ℕ, zero, suc, ◌+◌, ◌-◌, ◌*◌, ◌/◌, ◌%◌, ◌^◌, ◌<◌, ◌≤◌, min, max, ◌≢◌, sym, refl, ap, ◌∙◌, subst, div-lt_iff_lt-mul, pow-suc, arith, pow_pos, shr-shr}
+use Rattle.std.proofs.Common.{◌≡◌, ℕ, zero, suc, ◌+◌, ◌-◌, ◌*◌, ◌/◌, ◌%◌, ◌^◌, ◌<◌, ◌≤◌, min, ◌≢◌, sym, refl, ap, ◌∙◌, subst, div-lt_iff_lt-mul, pow-suc, arith, pow_pos, shr-shr}
 use native.Mathlib.Decide.{dec_le, ℕ_discrete}
 use lib.Arith.{bin_ind}
 use lib.Pow.{pow-lt}
-use lib.Bits.{bit_and, bit_or, or_disjoint, and_self, and_step, and_le_r}
+use lib.Bits.{bit_and, or_disjoint, and_self, and_step, and_le_r}
 use lib.Count.{ones, ones-le, ones_step, count_trailing_zeros, under}
 use Rattle.sets.specs.Sets.{bit, Has, Inside, Within, minus, Lowest, Marks}
 use Rattle.sets.proofs.Bits.{bit_digit, bit_zero, bit_suc, bit_of_or, bit_of_and, bit_none, bit_past, same_bits, bit_minus, bit_not, minus_le, empty_of, inside_le, inside_and}

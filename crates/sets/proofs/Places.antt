@@ -1,9 +1,9 @@
 -- What holds among the rows when one more is put behind them.
-use Rattle.std.proofs.Common.{◌≡◌, ℕ, ◌<◌, ◌≤◌, min, Bool, ◌⊎◌, List, [], ◌∷◌, ◌++◌, length, get_or, take, is_some, Some, None, Decides, Option, sym, refl, ap, ◌∙◌, subst, inl, inr, ⊎_elim, arith}
+use Rattle.std.proofs.Common.{◌≡◌, ℕ, min, Bool, ◌⊎◌, List, [], ◌∷◌, ◌++◌, length, take, is_some, Some, None, Decides, Option, sym, refl, ap, ◌∙◌, subst, inl, inr, ⊎_elim, arith}
 use native.Mathlib.Decide.{dec_le}
 use Rattle.std.proofs.lemmas.List.{length_push, get_or_push, get_or_append_left, take_all}
 use Rattle.std.proofs.lemmas.Bool.{cases_lt, false≢true}
-use Rattle.sets.specs.Search.{Holds, Somewhere, First}
+use Rattle.sets.specs.Search.{Somewhere, First}
 
 module _ {E : Type 0} (P : E → Type 0) (xs : List E) (x : E) where
   pub somewhere_old : Somewhere P xs → Somewhere P (xs ++ x ∷ [])

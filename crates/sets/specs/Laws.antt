@@ -1,6 +1,6 @@
 -- Laws of sets that everything else cites.
 use Rattle.std.specs.Prelude.{◌≡◌, ℕ, ◌+◌, ◌-◌, ◌^◌, ◌<◌, ◌⊎◌, bit_and, bit_or, count_ones}
-use Rattle.sets.specs.Sets.{Has, Inside, Apart, Within, minus, Lowest, Marks}
+use Rattle.sets.specs.Sets.{Has, Inside, Apart, Within, minus, Marks}
 
 -- the first holds where the second does, and the other way round
 abbrev pub Both : Type 0 → Type 0 → Type 0

@@ -1,5 +1,5 @@
 -- The first place, from a given one on, of which a fact holds.
-use Rattle.std.specs.Prelude.{◌≡◌, ℕ, ◌<◌, ◌≤◌, List, length, Some, None, Option, slice_index_or}
+use Rattle.std.specs.Prelude.{ℕ, ◌<◌, ◌≤◌, List, length, Some, None, Option, slice_index_or}
 
 module _ {E : Type 0} where
   -- P holds of the row at i

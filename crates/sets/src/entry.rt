@@ -14,7 +14,7 @@ pub trait Entry {
 
 // The first of `rows`, from the place `from` on, that fits.
 pub fn next_fit<E: Entry>(rows: &[E], from: usize, against: &E::Against) -> Option<usize>
-    ensures { First (λ e. fitting e against.now) rows.now from result }
+    ensures { First (λ e. E.fitting e against.now) rows.now from result }
 {
     for i in from..rows.len() {
         if rows[i].fits(against) {

@@ -1,3 +1,4 @@
+#![tactic(auto)]
 // Sets of atoms as 64-bit masks, the one list that takes entries until it is full, and the one search along a slice.
 mod entry;
 mod filled;

@@ -1,3 +1,4 @@
+#![tactic(auto)]
 // Prints the planning graph of the model valuation, level by level: the facts, and the pairs of them that are exclusive.
 use anyhow::anyhow;
 use graph::Graph;

@@ -1,3 +1,4 @@
+#![tactic(auto)]
 // Positions, and stores of positions that no firm run reaches.
 mod answer;
 mod bare;

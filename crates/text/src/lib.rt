@@ -1,3 +1,4 @@
+#![tactic(auto)]
 // The text of a problem: its records, reading with exact faults, writing through moved states, and the round trip.
 mod bytes;
 mod checker;

@@ -1,3 +1,4 @@
+#![tactic(auto)]
 // Texts that are whole, damaged or too long, and what is found in each: one line a case.
 mod cases;
 mod lists;

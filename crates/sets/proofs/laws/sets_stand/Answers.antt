@@ -1,6 +1,4 @@
-use Rattle.std.proofs.Common.{◌≡◌, ℕ, ◌+◌, ◌-◌, ◌^◌, ◌<◌, ◌⊎◌, sym, ap, ◌∙◌, inl, inr, arith}
-use lib.Bits.{bit_and, bit_or}
-use Rattle.sets.specs.Sets.{bit, Has, Marks, minus}
+use Rattle.std.proofs.Common.{sym, ◌∙◌, inl, inr, arith}
 use Rattle.sets.specs.Laws.{Members, InclusionTests}
 use Rattle.sets.proofs.Bits.{bit_digit, bit_of_or, bit_of_and, has?, same_members, minus_marks, inside_and, and_inside, apart_and, and_apart, and_not}
 use Rattle.sets.proofs.Members.{none_minus, minus_none, ones_minus, below_within, within_below}

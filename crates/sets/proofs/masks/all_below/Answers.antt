@@ -1,4 +1,4 @@
-use Rattle.std.proofs.Common.{subst, arith}
+use Rattle.std.proofs.Common.{arith}
 use Rattle.sets.proofs.Members.{shift_one, all_marks}
 use Rattle.sets.proofs.masks.all_below.Goals as goal
 

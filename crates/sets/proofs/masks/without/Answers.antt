@@ -1,5 +1,5 @@
-use Rattle.std.proofs.Common.{◌≡◌, ℕ, sym, subst, arith}
-use Rattle.sets.specs.Sets.{Has, Marks, minus}
+use Rattle.std.proofs.Common.{ℕ, sym, subst, arith}
+use Rattle.sets.specs.Sets.{Has, Marks}
 use Rattle.sets.proofs.Bits.{and_not, minus_marks}
 use Rattle.sets.proofs.masks.without.Goals as goal
 
