@@ -4,7 +4,7 @@ use native.Mathlib.Decide.{ℕ_discrete}
 use lib.Count.{ones}
 use Rattle.sets.proofs.Bits.{bit_digit, bit_none, same_members, has?}
 use Rattle.sets.specs.Sets.{bit, Has, Inside, minus}
-use Rattle.problem.specs.Actions.{Action, fires, result, cuts, gives}
+use Rattle.problem.specs.Actions.{Action, fires, result_of, cuts, gives}
 use Rattle.problem.specs.Firm.{Turn, Runs}
 use Rattle.problem.specs.Orders.{Order, EveryOrder}
 use Rattle.problem.specs.Calm.{Calm, Ends}
@@ -48,7 +48,7 @@ module _ (at : ℕ → Action) (s step : ℕ) (calm : Calm at s step) where
           ])),
     )
 
-    gave : (k : ℕ) → bit (result (at i) t) k ≡ max (bit t k) (bit (gives at s i) k) - bit (cuts at s i) k
+    gave : (k : ℕ) → bit (result_of (at i) t) k ≡ max (bit t k) (bit (gives at s i) k) - bit (cuts at s i) k
     gave k = result_bit at i s t k turn.1
 
     apart_bit : (j k : ℕ) → Has step j → j ≢ i → Has (gives at s j) k → bit (cuts at s i) k ≡ 0
@@ -56,7 +56,7 @@ module _ (at : ℕ → Action) (s step : ℕ) (calm : Calm at s step) where
         let n : Has (cuts at s i) k → ⊥ = calm.clash j i hj (r.part i hi) ne k h in
         omega (arith, bit_digit (cuts at s i) k)
 
-    next : Reached at s step (result (at i) t) (minus rest (2 ^ i))
+    next : Reached at s step (result_of (at i) t) (minus rest (2 ^ i))
     next = record {
       part = λ k h. r.part k (left_in rest i k h);
       source = λ k h. elim (has? t k) [
@@ -91,7 +91,7 @@ module _ (at : ℕ → Action) (s step : ℕ) (calm : Calm at s step) where
   run : (seq : List ℕ) (t rest : ℕ) → Reached at s step t rest → Order rest seq → (end : ℕ) × Runs at s t seq end × Reached at s step end 0
   run [] t rest r o = (t, refl, subst (λ (x : ℕ). Reached at s step t x) o r)
   run (i ∷ seq) t rest r o =
-      let more = run seq (result (at i) t) (minus rest (2 ^ i)) (next t rest r i o.0) o.1 in
+      let more = run seq (result_of (at i) t) (minus rest (2 ^ i)) (next t rest r i o.0) o.1 in
       (more.0, (turn t rest r i o.0, more.1), more.2)
 
   nothing : (j : ℕ) → Has 0 j → ⊥

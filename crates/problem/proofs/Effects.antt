@@ -4,7 +4,7 @@ use lib.Bits.{bit_or}
 use lib.Dec.{eqb_refl}
 use Rattle.sets.proofs.Bits.{bit_digit, bit_of_or, bit_none, bit_minus, inside_and, and_inside, has?}
 use Rattle.sets.specs.Sets.{bit, Has, Inside}
-use Rattle.problem.specs.Actions.{Action, Among, fires, gather, adds, deletes, result, cuts, gives, FireAlike}
+use Rattle.problem.specs.Actions.{Action, Among, fires, gather, adds, deletes, result_of, cuts, gives, FireAlike}
 use Rattle.problem.specs.declared.rows.EffectRow.{EffectRow}
 
 pub gather_alike : (mask : EffectRow → ℕ) (s t : ℕ) (es : List EffectRow) → FireAlike es s t → gather mask t es ≡ gather mask s es
@@ -24,7 +24,7 @@ net_apart at s i k =
 
 -- a state after a turn, atom by atom, from what the action gives and cuts in s
 pub result_bit : (at : ℕ → Action) (i s t k : ℕ) → FireAlike (at i).effects s t
-    → bit (result (at i) t) k ≡ max (bit t k) (bit (gives at s i) k) - bit (cuts at s i) k
+    → bit (result_of (at i) t) k ≡ max (bit t k) (bit (gives at s i) k) - bit (cuts at s i) k
 result_bit at i s t k f =
     let es = (at i).effects in
     omega (

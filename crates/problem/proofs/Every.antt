@@ -6,7 +6,7 @@ use lib.Count.{ones, count_trailing_zeros}
 use Rattle.sets.proofs.Bits.{bit_digit, bit_of_and, bit_minus}
 use Rattle.sets.proofs.Members.{bit_other, ones_minus, low_lt, low_has, low_rest, minus_lt, not_in_none, inside_lt}
 use Rattle.sets.specs.Sets.{bit, Has, Inside, minus}
-use Rattle.problem.specs.Actions.{Action, result}
+use Rattle.problem.specs.Actions.{Action, result_of}
 use Rattle.problem.specs.Firm.{Turn, Runs}
 use Rattle.problem.specs.Orders.{Order, EveryOrder, EachFirst}
 use Rattle.problem.proofs.Listed.{some_order}
@@ -55,18 +55,18 @@ module _ (at : ℕ → Action) (s t step end : ℕ) where
       no_t (f (k ∷ o.0) (h, o.1)).0
 
   -- after the turn of k: the state next, and rest of the step
-  pub no_rest : (k next rest : ℕ) → next ≡ result (at k) t → rest ≡ minus step (2 ^ k) → Has step k
+  pub no_rest : (k next rest : ℕ) → next ≡ result_of (at k) t → rest ≡ minus step (2 ^ k) → Has step k
       → (EveryOrder at s next rest end → ⊥) → EveryOrder at s t step end → ⊥
   no_rest k next rest en er h no_r f =
       no_r (subst₂ (λ (x y : ℕ). EveryOrder at s x y end) (sym en) (sym er) (λ seq o. (f (k ∷ seq) (h, o)).1))
 
   pub each_more : (left next rest : ℕ) → left < 2 ^ 64 → 0 < left → Turn (at (count_trailing_zeros 64 left)) s t
-      → next ≡ result (at (count_trailing_zeros 64 left)) t → rest ≡ minus step (2 ^ count_trailing_zeros 64 left)
+      → next ≡ result_of (at (count_trailing_zeros 64 left)) t → rest ≡ minus step (2 ^ count_trailing_zeros 64 left)
       → EveryOrder at s next rest end
       → EachFirst at s t step left end → EachFirst at s t step (bit_and left (left - 1)) end
   each_more left next rest lt p turn en er every each j hj no_j =
       let k : ℕ = count_trailing_zeros 64 left in
-      let every' : EveryOrder at s (result (at k) t) (minus step (2 ^ k)) end = subst₂ (λ (x y : ℕ). EveryOrder at s x y end) en er every in
+      let every' : EveryOrder at s (result_of (at k) t) (minus step (2 ^ k)) end = subst₂ (λ (x y : ℕ). EveryOrder at s x y end) en er every in
       elim (ℕ_discrete j k) [
         | yes e ↦ subst (λ (x : ℕ). (seq : List ℕ) → Order (minus step (2 ^ x)) seq → Runs at s t (x ∷ seq) end) (sym e) (λ seq o. (turn, every' seq o))
         | no ne ↦ each j hj (λ h. no_j (
@@ -75,7 +75,7 @@ module _ (at : ℕ → Action) (s t step end : ℕ) where
       ]
 
   -- the lowest of the step first
-  pub lowest_next : (next : ℕ) → step < 2 ^ 64 → 0 < step → next ≡ result (at (count_trailing_zeros 64 step)) t
+  pub lowest_next : (next : ℕ) → step < 2 ^ 64 → 0 < step → next ≡ result_of (at (count_trailing_zeros 64 step)) t
       → EveryOrder at s t step end → EveryOrder at s next (bit_and step (step - 1)) end
   lowest_next next lt p en f =
       subst₂ (λ (x y : ℕ). EveryOrder at s x y end) (sym en) (sym (low_rest step p lt)) (λ seq o. (f (count_trailing_zeros 64 step ∷ seq) (low_has step p lt, o)).1)

@@ -7,7 +7,7 @@ use Rattle.std.proofs.lemmas.Bool.{false≢true, true≢false}
 use Rattle.sets.specs.Sets.{bit, Has, Inside, minus}
 use Rattle.sets.proofs.Bits.{bit_digit, bit_of_or, bit_minus, bit_none, bit_zero, same_bits, and_inside}
 use Rattle.sets.proofs.Members.{bit_one, bit_other, not_in_none, below_within}
-use Rattle.problem.specs.Actions.{Action, result, adds, deletes, gather, fires}
+use Rattle.problem.specs.Actions.{Action, result_of, adds, deletes, gather, fires}
 use Rattle.problem.specs.Firm.{Task, Step, OrderOf, Turn, Runs, Firm, FirmStep}
 use Rattle.problem.specs.Orders.{Order, EveryOrder}
 use Rattle.problem.specs.Examples.{valuation, crossed, undone, SweepEnds, CheckAndSweep, PostAndSweep, CrossedNotFirm, UndoneEndsWithout}
@@ -27,12 +27,12 @@ none_order at s t step end [] e o q = q
 none_order at s t step end (k ∷ ks) e o q = absurd (not_in_none step k e o.0)
 
 -- a step of one action
-pub one_every : (at : ℕ → Action) (s t i end : ℕ) → Turn (at i) s t → result (at i) t ≡ end → EveryOrder at s t (2 ^ i) end
+pub one_every : (at : ℕ → Action) (s t i end : ℕ) → Turn (at i) s t → result_of (at i) t ≡ end → EveryOrder at s t (2 ^ i) end
 one_every at s t i end turn ends [] o = absurd (let z : ⊥ = omega (arith, pow_pos i, o) in z)
 one_every at s t i end turn ends (k ∷ ks) o =
     let e : k ≡ i = member_one i k o.0 in
     let rest : Order (minus (2 ^ i) (2 ^ i)) ks = subst (λ (x : ℕ). Order (minus (2 ^ i) (2 ^ x)) ks) e o.1 in
-    subst (λ (x : ℕ). Runs at s t (x ∷ ks) end) (sym e) (turn, none_order at s (result (at i) t) _ end ks (nothing_left i) rest ends)
+    subst (λ (x : ℕ). Runs at s t (x ∷ ks) end) (sym e) (turn, none_order at s (result_of (at i) t) _ end ks (nothing_left i) rest ends)
 
 other_left : (i j : ℕ) → i ≢ j → minus (bit_or (2 ^ i) (2 ^ j)) (2 ^ i) ≡ 2 ^ j
 other_left i j ne = same_bits _ _ (λ k. elim (ℕ_discrete k i) [
@@ -48,8 +48,8 @@ or_comm a b = same_bits _ _ (λ k. omega (arith, bit_of_or a b k, bit_of_or b a 
 
 -- a step of two actions
 pub two_every : (at : ℕ → Action) (s i j end : ℕ) → i ≢ j
-    → Turn (at i) s s → Turn (at j) s (result (at i) s) → result (at j) (result (at i) s) ≡ end
-    → Turn (at j) s s → Turn (at i) s (result (at j) s) → result (at i) (result (at j) s) ≡ end
+    → Turn (at i) s s → Turn (at j) s (result_of (at i) s) → result_of (at j) (result_of (at i) s) ≡ end
+    → Turn (at j) s s → Turn (at i) s (result_of (at j) s) → result_of (at i) (result_of (at j) s) ≡ end
     → EveryOrder at s s (bit_or (2 ^ i) (2 ^ j)) end
 two_every at s i j end ne i₁ j₂ ends j₁ i₂ ends' [] o =
     absurd (not_in_none (bit_or (2 ^ i) (2 ^ j)) i o (omega (arith, bit_of_or (2 ^ i) (2 ^ j) i, bit_one i, bit_digit (2 ^ j) i)))
@@ -57,13 +57,13 @@ two_every at s i j end ne i₁ j₂ ends j₁ i₂ ends' (k ∷ ks) o = elim (�
   | yes e ↦ (
       let rest : Order (2 ^ j) ks =
       subst (λ (x : ℕ). Order x ks) (other_left i j ne) (subst (λ (x : ℕ). Order (minus (bit_or (2 ^ i) (2 ^ j)) (2 ^ x)) ks) e o.1) in
-      subst (λ (x : ℕ). Runs at s s (x ∷ ks) end) (sym e) (i₁, one_every at s (result (at i) s) j end j₂ ends ks rest))
+      subst (λ (x : ℕ). Runs at s s (x ∷ ks) end) (sym e) (i₁, one_every at s (result_of (at i) s) j end j₂ ends ks rest))
   | no other ↦ (
       let e : k ≡ j = member_one j k (omega (arith, o.0, bit_of_or (2 ^ i) (2 ^ j) k, bit_other i k other, bit_digit (2 ^ j) k)) in
       let rest : Order (2 ^ i) ks =
       subst (λ (x : ℕ). Order x ks) (ap (λ (x : ℕ). minus x (2 ^ j)) (or_comm (2 ^ i) (2 ^ j)) ∙ other_left j i (λ q. ne (sym q)))
       (subst (λ (x : ℕ). Order (minus (bit_or (2 ^ i) (2 ^ j)) (2 ^ x)) ks) e o.1) in
-      subst (λ (x : ℕ). Runs at s s (x ∷ ks) end) (sym e) (j₁, one_every at s (result (at j) s) i end i₂ ends' ks rest))
+      subst (λ (x : ℕ). Runs at s s (x ∷ ks) end) (sym e) (j₁, one_every at s (result_of (at j) s) i end i₂ ends' ks rest))
 ]
 
 pub sweep_ends : SweepEnds

@@ -6,7 +6,7 @@ use lib.Count.{ones}
 use Rattle.sets.proofs.Bits.{bit_digit, bit_of_or, bit_of_and, bit_none, same_bits, bit_minus, apart_and, has?}
 use Rattle.sets.proofs.Members.{bit_one, bit_other, has_lt, minus_lt, not_in_none}
 use Rattle.sets.specs.Sets.{bit, Has, Inside, Apart, minus}
-use Rattle.problem.specs.Actions.{Action, Among, fires, result, cuts, gives}
+use Rattle.problem.specs.Actions.{Action, Among, fires, result_of, cuts, gives}
 use Rattle.problem.specs.Firm.{Turn, Runs}
 use Rattle.problem.specs.Orders.{Order, EveryOrder}
 use Rattle.problem.specs.Calm.{Gets, Calm, Ends}
@@ -51,11 +51,11 @@ order_split xs ys step part sub p q =
 
 runs_split : (at : ℕ → Action) (s end : ℕ) (xs ys : List ℕ) (t : ℕ) → Runs at s t (xs ++ ys) end → (m : ℕ) × Runs at s t xs m × Runs at s m ys end
 runs_split at s end [] ys t r = (t, refl, r)
-runs_split at s end (x ∷ xs) ys t r = let q = runs_split at s end xs ys (result (at x) t) r.1 in (q.0, (r.0, q.1), q.2)
+runs_split at s end (x ∷ xs) ys t r = let q = runs_split at s end xs ys (result_of (at x) t) r.1 in (q.0, (r.0, q.1), q.2)
 
 runs_one : (at : ℕ → Action) (s : ℕ) (xs : List ℕ) (t a b : ℕ) → Runs at s t xs a → Runs at s t xs b → a ≡ b
 runs_one at s [] t a b p q = sym p ∙ q
-runs_one at s (x ∷ xs) t a b p q = runs_one at s xs (result (at x) t) a b p.1 q.1
+runs_one at s (x ∷ xs) t a b p q = runs_one at s xs (result_of (at x) t) a b p.1 q.1
 
 -- ---- the numbers below n for which a test holds, as a mask
 
@@ -104,7 +104,7 @@ module _ (at : ℕ → Action) (s c : ℕ) where
   kept_along [] t m part o f r k hc h = subst (λ (y : ℕ). Has y k) r h
   kept_along (x ∷ xs) t m part o f r k hc h =
       let n : Has (cuts at s x) k → ⊥ = f x o.0 k hc in
-      kept_along xs (result (at x) t) m (minus part (2 ^ x)) o.1 (λ j hj. f j (left_in part x j hj)) r.1 k hc
+      kept_along xs (result_of (at x) t) m (minus part (2 ^ x)) o.1 (λ j hj. f j (left_in part x j hj)) r.1 k hc
       (omega (arith, h, result_bit at x s t k r.0.1, bit_digit (cuts at s x) k, bit_digit (gives at s x) k))
 
   given_along : (xs : List ℕ) (t m part : ℕ) → Order part xs → ((j : ℕ) → Has part j → Apart c (cuts at s j)) → Runs at s t xs m
@@ -112,9 +112,9 @@ module _ (at : ℕ → Action) (s c : ℕ) where
   given_along [] t m part o f r j k hj hc h = absurd (not_in_none part j o hj)
   given_along (x ∷ xs) t m part o f r j k hj hc h = elim (ℕ_discrete j x) [
     | yes e ↦ (let h' : Has (gives at s x) k = subst (λ (y : ℕ). Has (gives at s y) k) e h in
-        kept_along xs (result (at x) t) m (minus part (2 ^ x)) o.1 (λ j hj. f j (left_in part x j hj)) r.1 k hc
+        kept_along xs (result_of (at x) t) m (minus part (2 ^ x)) o.1 (λ j hj. f j (left_in part x j hj)) r.1 k hc
         (omega (arith, h', result_bit at x s t k r.0.1, net_apart at s x k, bit_digit t k, bit_digit (gives at s x) k)))
-    | no ne ↦ given_along xs (result (at x) t) m (minus part (2 ^ x)) o.1 (λ j hj. f j (left_in part x j hj)) r.1 j k (left_has part x j hj ne) hc h
+    | no ne ↦ given_along xs (result_of (at x) t) m (minus part (2 ^ x)) o.1 (λ j hj. f j (left_in part x j hj)) r.1 j k (left_has part x j hj ne) hc h
   ]
 
 -- ---- a firm step is calm
@@ -126,7 +126,7 @@ module _ (at : ℕ → Action) (s step end : ℕ) (lt : step < 2 ^ 64) (every : 
   first : (i : ℕ) → Has step i → Turn (at i) s s
   first i hi = let o = order_of (minus step (2 ^ i)) (minus_lt step (2 ^ i) lt) in (every (i ∷ o.0) (hi, o.1)).0
 
-  second : (i j : ℕ) → Has step i → Has step j → i ≢ j → Turn (at j) s s × Turn (at i) s (result (at j) s)
+  second : (i j : ℕ) → Has step i → Has step j → i ≢ j → Turn (at j) s s × Turn (at i) s (result_of (at j) s)
   second i j hi hj ne =
       let m : ℕ = minus (minus step (2 ^ j)) (2 ^ i) in
       let o = order_of m (minus_lt (minus step (2 ^ j)) (2 ^ i) (minus_lt step (2 ^ j) lt)) in
@@ -202,16 +202,16 @@ module _ (at : ℕ → Action) (s step end : ℕ) (lt : step < 2 ^ 64) (every : 
           net_apart at s i k,
           bit_digit (gives at s i) k,
           bit_digit (gives at s j) k,
-          bit_digit (result (at i) m) k,
-          bit_digit (result (at j) n) k,
+          bit_digit (result_of (at i) m) k,
+          bit_digit (result_of (at j) n) k,
         );
     needs = λ i j hi hj ne k h c.
         let q = second i j hi hj ne in
         omega (arith, q.1.0 k h, c, result_bit at j s s k q.0.1, bit_digit s k, bit_digit (gives at s j) k);
     holds = λ i j hi hj ne e among f k h c.
         let q = second i j hi hj ne in
-        let f' = subst T (alike_at (at i).effects s (result (at j) s) q.1.1 e among) f in
-        omega (arith, fires_inside (result (at j) s) e f' k h, c, result_bit at j s s k q.0.1, bit_digit s k, bit_digit (gives at s j) k);
+        let f' = subst T (alike_at (at i).effects s (result_of (at j) s) q.1.1 e among) f in
+        omega (arith, fires_inside (result_of (at j) s) e f' k h, c, result_bit at j s s k q.0.1, bit_digit s k, bit_digit (gives at s j) k);
     rests = rests;
   }
 

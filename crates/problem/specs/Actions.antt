@@ -30,8 +30,8 @@ abbrev pub deletes : ℕ → List EffectRow → ℕ
 deletes s es = gather (λ e. e.delete) s es
 
 -- the state after an action: all that it adds is put in, and then all that it deletes is taken out
-abbrev pub result : Action → ℕ → ℕ
-result a s = minus (bit_or s (adds s a.effects)) (deletes s a.effects)
+abbrev pub result_of : Action → ℕ → ℕ
+result_of a s = minus (bit_or s (adds s a.effects)) (deletes s a.effects)
 
 -- the same as two sets that are apart: what the action i takes out of s, and what it puts in for good
 abbrev pub cuts : (ℕ → Action) → ℕ → ℕ → ℕ

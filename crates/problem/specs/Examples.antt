@@ -1,7 +1,7 @@
 -- The model valuation, and what the definitions say of it. Sets are written as numbers: {0,2} is 5.
 use Rattle.std.specs.Prelude.{◌≡◌, ℕ, List, [], ◌∷◌}
 use Rattle.sets.specs.Sets.{Has}
-use Rattle.problem.specs.Actions.{Action, result}
+use Rattle.problem.specs.Actions.{Action, result_of}
 use Rattle.problem.specs.Firm.{Task, FirmStep}
 use Rattle.problem.specs.Problems.{task_from}
 use Rattle.problem.specs.declared.rows.ActionRow.{ActionRow}
@@ -47,10 +47,10 @@ PostAndSweep = FirmStep valuation 7 6 26
 -- both orders of the crossed actions lead from the empty state to {0,1,2}, and yet the two are not firm together
 abbrev pub CrossedNotFirm : Type 0
 CrossedNotFirm =
-    (result (crossed.at 1) (result (crossed.at 0) 0) ≡ 7)
-    × (result (crossed.at 0) (result (crossed.at 1) 0) ≡ 7)
+    (result_of (crossed.at 1) (result_of (crossed.at 0) 0) ≡ 7)
+    × (result_of (crossed.at 0) (result_of (crossed.at 1) 0) ≡ 7)
     × ((end : ℕ) → FirmStep crossed 0 3 end → ⊥)
 
 -- what is added and deleted ends out
 abbrev pub UndoneEndsWithout : Type 0
-UndoneEndsWithout = (s : ℕ) → Has (result undone s) 0 → ⊥
+UndoneEndsWithout = (s : ℕ) → Has (result_of undone s) 0 → ⊥

@@ -1,7 +1,7 @@
 -- Firm steps, over every order of their actions.
 use Rattle.std.specs.Prelude.{◌≡◌, ℕ, ◌^◌, ◌<◌, ◌≤◌, ◌⊎◌, List, [], ◌∷◌, count_ones}
 use Rattle.sets.specs.Sets.{Has, minus}
-use Rattle.problem.specs.Actions.{Action, result, MayRun, FireAlike}
+use Rattle.problem.specs.Actions.{Action, result_of, MayRun, FireAlike}
 
 -- a planning task: the numbers of its atoms and hands, its first state, the number of its actions, and the action of each number
 pub record Task : Type 0 where
@@ -39,7 +39,7 @@ Turn a s t = MayRun a t × FireAlike a.effects s t
 -- from the state t the actions take their turns in this order, each firing what it fires in s, and the last leaves the state end
 abbrev pub Runs : (ℕ → Action) → ℕ → ℕ → List ℕ → ℕ → Type 0
 Runs at s t [] end = t ≡ end
-Runs at s t (k ∷ ks) end = Turn (at k) s t × Runs at s (result (at k) t) ks end
+Runs at s t (k ∷ ks) end = Turn (at k) s t × Runs at s (result_of (at k) t) ks end
 
 -- in every order the actions of step run from s, and end in end
 abbrev pub Firm : (ℕ → Action) → ℕ → ℕ → ℕ → Type 0

@@ -1,6 +1,6 @@
 ghost use Rattle.std.specs.Prelude.{◌≡◌, ℕ, ◌+◌, ◌-◌, ◌^◌, ◌<◌, ◌≤◌, Decides, MatchOption, MatchResult};
 ghost use Rattle.sets.specs.Sets.{Has, Within, minus};
-ghost use Rattle.problem.specs.Actions.{result};
+ghost use Rattle.problem.specs.Actions.{result_of};
 ghost use Rattle.problem.specs.Firm.{Turn, Step};
 ghost use Rattle.problem.specs.Orders.{EveryOrder};
 ghost use Rattle.problem.specs.Problems.{task_of};
@@ -14,10 +14,10 @@ use sets::{inside, within, without_one};
 
 // The state after an action's turn, if the action may run in `state` and fires what it fires in `start`.
 fn turn(problem: &Problem, start: u64, state: u64, action: usize) -> Option<u64>
-    ensures* { λ r. ⌜ MatchOption r
+    ensures { MatchOption result
         (Turn ((task_of problem.now).at action) start state → ⊥)
         (λ next. Turn ((task_of problem.now).at action) start state
-        × next ≡ result ((task_of problem.now).at action) state) ⌝ }
+        × next ≡ result_of ((task_of problem.now).at action) state) }
 {
     let effects = problem.effects_of(action);
     if inside(problem.precondition_of(action), state) && fire_alike(effects, start, state) {
@@ -29,7 +29,7 @@ fn turn(problem: &Problem, start: u64, state: u64, action: usize) -> Option<u64>
 
 // Whether from `state` every order of the actions of `remaining` takes its turns and ends in `end`.
 fn every_order(problem: &Problem, start: u64, state: u64, remaining: u64, end: u64) -> bool
-    ensures* { λ r. ⌜ Decides r (EveryOrder (task_of problem.now).at start state remaining end) ⌝ }
+    ensures { Decides result (EveryOrder (task_of problem.now).at start state remaining end) }
 {
     if remaining == 0 {
         return state == end;
@@ -51,7 +51,7 @@ fn every_order(problem: &Problem, start: u64, state: u64, remaining: u64, end: u
 
 // Where the order that takes the lowest action first ends: every order of a firm step ends there.
 fn lowest_first(problem: &Problem, start: u64, step: u64) -> u64
-    ensures* { λ r. ⌜ ((end : ℕ) → EveryOrder (task_of problem.now).at start start step end → r ≡ end) ⌝ }
+    ensures { (end : ℕ) → EveryOrder (task_of problem.now).at start start step end → result ≡ end }
 {
     let mut state = start;
     let mut left = step;
@@ -66,16 +66,16 @@ fn lowest_first(problem: &Problem, start: u64, step: u64) -> u64
 impl<'a> Problem<'a> {
     // Whether a set of action numbers is a step: actions of the problem, at most one a hand.
     pub fn is_step(&self, step: u64) -> bool
-        ensures* { λ r. ⌜ Decides r (Step (task_of self.now) step) ⌝ }
+        ensures { Decides result (Step (task_of self.now) step) }
     {
         within(step, self.actions.len()) && step.count_ones() <= u32::from(self.hands)
     }
 
     // The state in which a step ends, if the step is firm in `state`.
     pub fn try_step(&self, state: u64, step: u64) -> Result<Tried, Refusal>
-        ensures* { λ r. ⌜ MatchResult r
+        ensures { MatchResult result
             (λ t. Within self.now.atoms state × Step (task_of self.now) step × Tries (task_of self.now) state step t)
-            (λ e. TryDeclines (task_of self.now) state step e) ⌝ }
+            (λ e. TryDeclines (task_of self.now) state step e) }
     {
         if !within(state, self.atoms as usize) {
             return Err(Refusal::UnknownAtom);
