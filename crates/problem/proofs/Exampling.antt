@@ -1,14 +1,14 @@
 -- Steps of one and of two actions, and the examples.
-use Rattle.std.proofs.Common.{◌≡◌, ℕ, zero, suc, ◌+◌, ◌-◌, ◌^◌, ◌<◌, ◌≤◌, Bool, true, false, ◌≢◌, ◌⊎◌, List, [], ◌∷◌, sym, refl, ap, ◌∙◌, subst, subst₂, inl, inr, arith, lit<, lit≤, pow_pos}
+use Rattle.std.proofs.Common.{◌≡◌, ℕ, ◌^◌, ◌≢◌, List, [], ◌∷◌, sym, refl, ap, ◌∙◌, subst, arith, lit<, lit≤, pow_pos}
 use native.Mathlib.Decide.{ℕ_discrete}
-use lib.Bits.{bit_and, bit_or}
+use lib.Bits.{bit_or}
 use lib.Count.{ones}
-use Rattle.std.proofs.lemmas.Bool.{false≢true, true≢false}
-use Rattle.sets.specs.Sets.{bit, Has, Inside, minus}
+use Rattle.std.proofs.lemmas.Bool.{false≢true}
+use Rattle.sets.specs.Sets.{bit, Has, minus}
 use Rattle.sets.proofs.Bits.{bit_digit, bit_of_or, bit_minus, bit_none, bit_zero, same_bits, and_inside}
 use Rattle.sets.proofs.Members.{bit_one, bit_other, not_in_none, below_within}
-use Rattle.problem.specs.Actions.{Action, result_of, adds, deletes, gather, fires}
-use Rattle.problem.specs.Firm.{Task, Step, OrderOf, Turn, Runs, Firm, FirmStep}
+use Rattle.problem.specs.Actions.{Action, result_of, adds, deletes}
+use Rattle.problem.specs.Firm.{Turn, Runs}
 use Rattle.problem.specs.Orders.{Order, EveryOrder}
 use Rattle.problem.specs.Examples.{valuation, crossed, undone, SweepEnds, CheckAndSweep, PostAndSweep, CrossedNotFirm, UndoneEndsWithout}
 use Rattle.problem.proofs.Listed.{every_firm, firm_every}

@@ -1,13 +1,11 @@
 -- Every problem stands for a task that fits.
-use Rattle.std.proofs.Common.{◌≡◌, ℕ, zero, suc, ◌+◌, ◌-◌, ◌<◌, ◌≤◌, min, ◌⊎◌, List, [], ◌∷◌, length, get_or, take, drop, sym, refl, ap, ◌∙◌, subst, inl, inr, arith}
+use Rattle.std.proofs.Common.{◌≡◌, ℕ, zero, suc, ◌+◌, ◌-◌, ◌<◌, List, [], ◌∷◌, length, take, drop, sym, subst, inl, inr, arith}
 use Rattle.std.proofs.lemmas.List.{length-take}
 use Rattle.sets.specs.Sets.{Within}
-use Rattle.problem.specs.Rows.{effect_at, begins, names_of, EffectsNamed}
+use Rattle.problem.specs.Rows.{effect_at, begins, names_of}
 use Rattle.problem.specs.Actions.{Among}
-use Rattle.problem.specs.Problems.{Fits, task_of, action_at}
 use Rattle.problem.specs.Theorems.{ProblemsFit}
 use Rattle.problem.specs.declared.rows.EffectRow.{EffectRow}
-use Rattle.problem.specs.declared.problem.Problem.{Problem}
 
 -- what stands in a part of the effects stands in the effects
 among_take : (n : ℕ) (es : List EffectRow) (e : EffectRow) → Among e (take n es) → Among e es

@@ -1,14 +1,12 @@
 -- What a step does depends only on the atoms that a mask of 64 bits can hold.
-use Rattle.std.proofs.Common.{◌≡◌, ℕ, ◌+◌, ◌-◌, ◌^◌, ◌<◌, ◌≤◌, min, Bool, T, ◌≢◌, ◌⊎◌, List, [], ◌∷◌, sym, refl, ap, ◌∙◌, subst, inl, inr, arith}
-use native.Mathlib.Decide.{dec_le}
+use Rattle.std.proofs.Common.{◌≡◌, ℕ, ◌-◌, ◌^◌, ◌<◌, T, sym, ap, ◌∙◌, subst, inl, inr, arith}
 use lib.Bits.{bit_and, bit_or, and_le_r}
-use Rattle.sets.specs.Sets.{bit, Has, Inside, Apart, Within, minus}
+use Rattle.sets.specs.Sets.{Has, Inside, Apart, minus}
 use Rattle.sets.proofs.Bits.{bit_digit, bit_of_and, bit_of_or, bit_minus}
 use Rattle.sets.proofs.Members.{all_marks, below_within}
-use Rattle.problem.specs.Rows.{names_of}
-use Rattle.problem.specs.Actions.{Action, Among, fires, adds, deletes, cuts, gives, FireAlike}
-use Rattle.problem.specs.Firm.{Task, Step, FirmStep}
-use Rattle.problem.specs.Calm.{Calm, Ends, Gets}
+use Rattle.problem.specs.Actions.{Among, fires, adds, deletes, cuts, gives, FireAlike}
+use Rattle.problem.specs.Firm.{Task, FirmStep}
+use Rattle.problem.specs.Calm.{Calm, Ends}
 use Rattle.problem.specs.Runs.{Goal, Meets}
 use Rattle.problem.specs.Problems.{Fits}
 use Rattle.problem.specs.declared.rows.EffectRow.{EffectRow}

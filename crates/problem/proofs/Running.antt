@@ -1,14 +1,13 @@
 -- Laws of firm steps and firm runs.
-use Rattle.std.proofs.Common.{◌≡◌, ℕ, zero, suc, ◌+◌, ◌-◌, ◌/◌, ◌^◌, ◌<◌, ◌≤◌, ◌⊎◌, List, [], ◌∷◌, ◌++◌, length, sym, refl, ap, ◌∙◌, subst, inl, inr, add-zero, add-suc, arith}
+use Rattle.std.proofs.Common.{◌≡◌, ℕ, zero, suc, ◌+◌, ◌-◌, ◌^◌, ◌<◌, ◌≤◌, List, [], ◌∷◌, ◌++◌, length, sym, refl, subst, inl, inr, add-zero, add-suc, arith}
 use lib.Bits.{bit_or}
-use lib.Count.{ones, ones-le}
+use lib.Count.{ones-le}
 use Rattle.std.proofs.lemmas.List.{length_push}
-use Rattle.sets.specs.Sets.{bit, Has, Inside, Within}
-use Rattle.sets.proofs.Bits.{bit_of_or, bit_digit, bit_minus, bit_none}
-use Rattle.sets.proofs.Members.{below_all, within_below, inside_lt, ones_mono, not_in_none}
-use Rattle.problem.specs.Rows.{names_of}
-use Rattle.problem.specs.Actions.{Action, Among, adds, deletes, gives}
-use Rattle.problem.specs.Firm.{Task, Step, In, OrderOf, Firm, FirmStep, Runs}
+use Rattle.sets.specs.Sets.{Has, Within}
+use Rattle.sets.proofs.Bits.{bit_of_or, bit_digit, bit_minus}
+use Rattle.sets.proofs.Members.{within_below, inside_lt, ones_mono, not_in_none}
+use Rattle.problem.specs.Actions.{Action, adds, deletes}
+use Rattle.problem.specs.Firm.{Task, Firm, FirmStep}
 use Rattle.problem.specs.Calm.{Calm, Ends}
 use Rattle.problem.specs.Runs.{Run, start, more, Leads}
 use Rattle.problem.specs.Problems.{Fits}

@@ -1,8 +1,8 @@
 -- One turn of the loops over an action's effects.
-use Rattle.std.proofs.Common.{◌≡◌, ℕ, zero, suc, ◌+◌, ◌-◌, ◌<◌, ◌≤◌, Bool, true, false, cond, not, List, [], ◌∷◌, length, get_or, drop, Some, None, Decides, sym, refl, ap, ◌∙◌, subst, arith}
+use Rattle.std.proofs.Common.{◌≡◌, ℕ, zero, suc, ◌+◌, ◌-◌, ◌<◌, ◌≤◌, Bool, true, false, cond, not, List, length, drop, Some, None, Decides, sym, refl, ap, ◌∙◌, subst, arith}
 use mathlib.Core.Bool.{beq}
 use native.Mathlib.Decide.{dec_le}
-use lib.Bits.{bit_and, bit_or, or_zero_r}
+use lib.Bits.{bit_or, or_zero_r}
 use Rattle.std.proofs.lemmas.List.{at_drop_more, at_drop_all, drop_more, get_or_default}
 use Rattle.std.proofs.lemmas.Bool.{eqb-true, eq-eqb, ne_eqb, both_ways}
 use Rattle.std.proofs.lemmas.Bool.Decides.{same_from_decides}

@@ -1,6 +1,6 @@
 -- Firm steps, over every order of their actions.
-use Rattle.std.specs.Prelude.{◌≡◌, ℕ, ◌^◌, ◌<◌, ◌≤◌, ◌⊎◌, List, [], ◌∷◌, count_ones}
-use Rattle.sets.specs.Sets.{Has, minus}
+use Rattle.std.specs.Prelude.{◌≡◌, ℕ, ◌<◌, ◌≤◌, ◌⊎◌, List, [], ◌∷◌, count_ones}
+use Rattle.sets.specs.Sets.{Has}
 use Rattle.problem.specs.Actions.{Action, result_of, MayRun, FireAlike}
 
 -- a planning task: the numbers of its atoms and hands, its first state, the number of its actions, and the action of each number

@@ -36,4 +36,4 @@ returns c =
     let task = task_of c.args.problem.now in
     let g = goal' c.args.need c.args.avoid in
     let inv = c.loop-state.invariant in
-    subst (λ (n : ℕ). Unreached task n g) inv.1 (none_reached task g c.loop-state.tree c.loop-state.next inv.0 c.in-default.ensures)
+    subst (λ (n : ℕ). Unreached task n g) inv.1 (none_reached task g c.loop-state.tree c.loop-state.next inv.0 c.in_default.ensures)

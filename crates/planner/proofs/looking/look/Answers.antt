@@ -99,7 +99,7 @@ returns g c =
     let lv = lowest_level c.loop-due.path c.args.path.now inv.1 inv.2 c.requires.some f c.lowest-level.ensures c.requires.placed.0.ranked.0 in
     record {
       nexts = λ a m₀ n k x. came_nothing (g.O.Outlook.task o) (g.O.Outlook.view o) (f.level - 1) (held_of c.loop-due.path) (held_of c.take-due.new.self)
-          lv c.in-default.ensures.took (inv.3 a m₀ n k x);
+          lv c.in_default.ensures.took (inv.3 a m₀ n k x);
       shape = c.take-due.ensures.shape;
       depth = c.take-due.ensures.depth ∙ inv.1;
       frames = c.take-due.ensures.frames ∙ inv.2;

@@ -1,4 +1,3 @@
-use Rattle.std.proofs.Common.{arith}
 use Rattle.problem.proofs.Steps.{gather_more, gather_all}
 use Rattle.problem.proofs.actions.change_in.Goals as goal
 
@@ -10,6 +9,6 @@ loop-i-preserved c = (
 
 pub returns : goal.returns
 returns c = record {
-  adds = gather_all _ _ _ _ _ c.loop-i.invariant.0 c.in-default.ensures;
-  deletes = gather_all _ _ _ _ _ c.loop-i.invariant.1 c.in-default.ensures;
+  adds = gather_all _ _ _ _ _ c.loop-i.invariant.0 c.in_default.ensures;
+  deletes = gather_all _ _ _ _ _ c.loop-i.invariant.1 c.in_default.ensures;
 }

@@ -1,4 +1,4 @@
-use Rattle.std.proofs.Common.{◌≡◌, ◌-◌, ◌≤◌, length, drop}
+use Rattle.std.proofs.Common.{◌≡◌, ◌-◌, length, drop}
 use lib.Bits.{bit_or}
 use Rattle.problem.specs.Actions.{adds, deletes}
 use Rattle.problem.proofs.actions.change_in.Given as goal

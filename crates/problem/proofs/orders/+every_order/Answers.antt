@@ -1,4 +1,4 @@
-use Rattle.std.proofs.Common.{◌≡◌, refl, ap, arith}
+use Rattle.std.proofs.Common.{refl, ap, arith}
 use lib.Count.{ones}
 use Rattle.std.proofs.lemmas.Bool.{eqb-true, eq-eqb, false≢true}
 use Rattle.problem.specs.Problems.{task_of}
@@ -11,24 +11,24 @@ returns-then-remaining-eq0 t c = (
   λ f. eq-eqb _ _ (none_complete _ _ _ _ _ c.if-remaining-eq0.true f),
 )
 
-pub returns-in-default : goal.returns-in-default
-returns-in-default t c = (
+pub returns-in_default : goal.returns-in_default
+returns-in_default t c = (
   λ z. absurd (false≢true z),
-  λ f. absurd (no_turn _ _ _ _ _ _ (omega arith) (pick_in c.loop-left.left c.args.remaining c.loop-left.invariant.0 (omega arith) c.loop-left-test.true) c.in-default.ensures f),
+  λ f. absurd (no_turn _ _ _ _ _ _ (omega arith) (pick_in c.loop-left.left c.args.remaining c.loop-left.invariant.0 (omega arith) c.loop-left-test.true) c.in_default.ensures f),
 )
 
-pub every-order-requires : goal.every-order-requires
-every-order-requires t c =
-    (omega (arith, c.decreases, ap ones c.without-one-rest.ensures, fewer c.loop-left.left c.args.remaining c.loop-left.invariant.0 (omega arith) c.loop-left-test.true))
+pub every_order-requires : goal.every_order-requires
+every_order-requires t c =
+    (omega (arith, c.decreases, ap ones c.without_one-rest.ensures, fewer c.loop-left.left c.args.remaining c.loop-left.invariant.0 (omega arith) c.loop-left-test.true))
 
-pub returns-then-not-every-order : goal.returns-then-not-every-order
-returns-then-not-every-order t c = (
+pub returns-then-not-every_order : goal.returns-then-not-every_order
+returns-then-not-every_order t c = (
   λ z. absurd (false≢true z),
   λ f. absurd (
       no_rest (task_of c.args.problem.now).at c.args.start c.args.state c.args.remaining c.args.end
-      _ _ _ c.in-Some.ensures.1 c.without-one-rest.ensures
+      _ _ _ c.in-Some.ensures.1 c.without_one-rest.ensures
       (pick_in c.loop-left.left c.args.remaining c.loop-left.invariant.0 (omega arith) c.loop-left-test.true)
-      (λ g. false≢true (c.if-not-every-order.ensures.1 g)) f),
+      (λ g. false≢true (c.if-not-every_order.ensures.1 g)) f),
 )
 
 pub loop-left-preserved : goal.loop-left-preserved
@@ -38,8 +38,8 @@ loop-left-preserved t c = (
       c.loop-left.left _ _
       (left_lt c.loop-left.left c.args.remaining c.loop-left.invariant.0 (omega arith) c.loop-left-test.true)
       (left_pos c.loop-left.left c.args.remaining c.loop-left.invariant.0 (omega arith) c.loop-left-test.true)
-      c.in-Some.ensures.0 c.in-Some.ensures.1 c.without-one-rest.ensures
-      (c.if-not-every-order.ensures.0 refl)
+      c.in-Some.ensures.0 c.in-Some.ensures.1 c.without_one-rest.ensures
+      (c.if-not-every_order.ensures.0 refl)
       c.loop-left.invariant.1,
 )
 

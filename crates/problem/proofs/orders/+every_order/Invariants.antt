@@ -1,12 +1,11 @@
-use Rattle.std.proofs.Common.{◌≡◌, ℕ, ◌^◌, List, ◌∷◌}
 use lib.Count.{ones}
-use Rattle.sets.specs.Sets.{Has, Inside, minus}
+use Rattle.sets.specs.Sets.{Inside}
 use Rattle.problem.specs.Orders.{EachFirst}
 use Rattle.problem.specs.Problems.{task_of}
 use Rattle.problem.proofs.orders.+every_order.Given as goal
 
-abbrev pub decreases-every-order : goal.decreases-every-order
-decreases-every-order l = ones l.remaining
+abbrev pub decreases-every_order : goal.decreases-every_order
+decreases-every_order l = ones l.remaining
 
 abbrev pub invariant-loop-left : goal.invariant-loop-left
 invariant-loop-left l =

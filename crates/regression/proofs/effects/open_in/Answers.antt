@@ -6,4 +6,4 @@ loop-i-preserved c =
     rw c.wanted-of-ask.ensures (gather_more _ _ _ _ _ c.loop-i.invariant c.in-Some.i c.in-Some.ensures)
 
 pub returns : goal.returns
-returns c = gather_all _ _ _ _ _ c.loop-i.invariant c.in-default.ensures
+returns c = gather_all _ _ _ _ _ c.loop-i.invariant c.in_default.ensures

@@ -5,4 +5,4 @@ pub loop-i-preserved : goal.loop-i-preserved
 loop-i-preserved c = gather_more _ _ _ _ _ c.loop-i.invariant c.in-Some.i c.in-Some.ensures
 
 pub returns : goal.returns
-returns c = gather_all _ _ _ _ _ c.loop-i.invariant c.in-default.ensures
+returns c = gather_all _ _ _ _ _ c.loop-i.invariant c.in_default.ensures

@@ -29,5 +29,5 @@ returns-in-default c =
           sure_yes at c.args.region.need (top_of c.args.region) c.args.step q
           (need_below c.args.region (omega arith) (omega arith) c.requires.apart) c.certain.result
           (subst₂ (λ (x y : ℕ). Judged x y (Sure at c.args.step q) (Matters at c.args.step q) c.certain.result) from to c.certain.ensures)
-          c.in-default.not-Yes f)),
+          c.in_default.not-Yes f)),
     )

@@ -38,7 +38,7 @@ returns-in-default c =
     let r = c.in-ok-found.ensures in
     let f = c.in-ok-found.found in
     let w = c.loop-found.invariant in
-    let e = only_end f.record (w.rowed _ r.2) (place_high c.loop-found.tally.place _ r.2) c.in-default.not-Action c.in-default.not-Effect in
+    let e = only_end f.record (w.rowed _ r.2) (place_high c.loop-found.tally.place _ r.2) c.in_default.not-Action c.in_default.not-Effect in
     let t = decoded c.args.text.now c.loop-found.at f _ (bytes_under _ c.type-inv.text) r.0 r.1 e (omega arith) in (
       w.rows,
       w.effects,

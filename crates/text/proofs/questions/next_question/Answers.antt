@@ -12,7 +12,7 @@ returns-in-default-record c =
     let f = c.in-ok-found.found in
     absurd (only_question f.record
     (sym (first_stands c.args.text.now f.at (kind_of f.record) (body_of f.record) r.1.bytes) ∙ ap (λ (x : ℕ). get_or c.args.text.now x 0) r.0 ∙ sym k.1 ∙ ap code_of c.in-Question.is)
-    c.in-default-record.not-Question)
+    c.in_default-record.not-Question)
 
 pub returns : goal.returns
 returns c =

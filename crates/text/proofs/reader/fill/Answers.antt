@@ -13,7 +13,7 @@ returns-in-default c = λ m h s n rows changes ra re v r.
     all_taken c.args.text.now m h s n c.loop-found.at rows changes _ _ _ _
     (x.2 m h s n rows changes (omega (arith, a.room)) (omega (arith, b.room)) v r)
     (kept_from _ _ _ a.same a.room a.lent x.0) (kept_from _ _ _ b.same b.room b.lent x.1)
-    (λ i q l u. halted_fault c.args.text.now c.loop-found.at _ c.record-at.ensures c.in-default.not-Ok i q)
+    (λ i q l u. halted_fault c.args.text.now c.loop-found.at _ c.record-at.ensures c.in_default.not-Ok i q)
 
 pub returns-in-default-record : goal.returns-in-default-record
 returns-in-default-record c = λ m h s n rows changes ra re v r.
@@ -24,7 +24,7 @@ returns-in-default-record c = λ m h s n rows changes ra re v r.
     all_taken c.args.text.now m h s n c.loop-found.at rows changes _ _ _ _
     (x.2 m h s n rows changes (omega (arith, a.room)) (omega (arith, b.room)) v r)
     (kept_from _ _ _ a.same a.room a.lent x.0) (kept_from _ _ _ b.same b.room b.lent x.1)
-    (halted_record c.args.text.now c.loop-found.at c.in-Ok.found f.0 f.1 c.in-default-record.not-Action c.in-default-record.not-Effect)
+    (halted_record c.args.text.now c.loop-found.at c.in-Ok.found f.0 f.1 c.in_default-record.not-Action c.in_default-record.not-Effect)
 
 pub loop-found-smaller-in-Action : goal.loop-found-smaller-in-Action
 loop-found-smaller-in-Action c =

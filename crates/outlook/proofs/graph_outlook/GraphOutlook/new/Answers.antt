@@ -5,8 +5,8 @@ use Rattle.graph.proofs.Answering.{closing_rule}
 use Rattle.outlook.specs.GraphLaws.{of_graph}
 use Rattle.outlook.proofs.graph_outlook.GraphOutlook.new.Goals as goal
 
-pub invariant-of-result : goal.invariant-of-result
-invariant-of-result c =
+pub invariant_of-result : goal.invariant_of-result
+invariant_of-result c =
     let of = c.build-graph.ensures in
     (of.atoms, (∣ of ∣₁, (∣ closing_rule (task_of c.args.problem) c.build-graph.result of c.closing-closing.result c.closing-closing.ensures ∣₁, tt)))
 

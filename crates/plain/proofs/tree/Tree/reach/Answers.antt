@@ -13,7 +13,7 @@ returns-in-default c = record {
     c.requires,
     front_same _ _ refl,
     not_firm (task_of c.args.problem.now) c.args.self.now c.args.from c.index-before.result.now c.requires c.index-before.ensures
-        c.args.step (problem_fits c.args.problem.now) c.in-default.ensures,
+        c.args.step (problem_fits c.args.problem.now) c.in_default.ensures,
   );
 }
 

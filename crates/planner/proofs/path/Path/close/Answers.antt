@@ -2,8 +2,8 @@ use Rattle.std.proofs.Common.{arith, rules}
 use Rattle.planner.proofs.Holding.{closed_held, closed_shape}
 use Rattle.planner.proofs.path.Path.close.Goals as goal
 
-pub offset-bounds-self-self : goal.offset-bounds-self-self
-offset-bounds-self-self c = search rules
+pub offset_bounds-self-self : goal.offset_bounds-self-self
+offset_bounds-self-self c = search rules
 
 pub bounds-self-self : goal.bounds-self-self
 bounds-self-self c = omega (arith, c.requires.deep, c.requires.some)

@@ -10,7 +10,7 @@ pub returns-then-not-has-room : goal.returns-then-not-has-room
 returns-then-not-has-room c = record {
   answer = (
     refl,
-    too_short (sized_mark c.args.self) (first_is c.args.first) c.args.out.now 9 (omega (arith, length_bytes_of 8 c.args.first)) refl tt c.in-default.ensures
+    too_short (sized_mark c.args.self) (first_is c.args.first) c.args.out.now 9 (omega (arith, length_bytes_of 8 c.args.first)) refl tt c.in_default.ensures
         (λ l. false≢true (c.if-not-has-room.ensures.1 l)),
   );
   written = λ d h. tt;
@@ -21,7 +21,7 @@ returns c =
     let w : Wrote (sized_mark c.args.self) _ (first_is c.args.first) c.args.out.now c.put-set-record.new.out = record {
       place = refl;
       range = tt;
-      naming = c.in-default.ensures;
+      naming = c.in_default.ensures;
       room = omega (arith, length_bytes_of 8 c.args.first, c.if-not-has-room.ensures.0 refl);
       next = refl;
       bytes = c.put-set-record.ensures;

@@ -10,7 +10,7 @@ use Rattle.text.proofs.writer.StartedText.action.Goals as goal
 
 pub returns-then-not-has-room : goal.returns-then-not-has-room
 returns-then-not-has-room c =
-    let f = c.in-default.ensures in
+    let f = c.in_default.ensures in
     record {
       answer = (
         refl,
@@ -22,7 +22,7 @@ returns-then-not-has-room c =
 
 pub returns : goal.returns
 returns c =
-    let f = c.in-default.ensures in
+    let f = c.in_default.ensures in
     let w : Wrote (started_mark c.args.self) _ (action_is c.args.precondition) c.args.out.now c.put-set-record.new.out = record {
       place = action_after c.args.self.actions;
       range = f.0;

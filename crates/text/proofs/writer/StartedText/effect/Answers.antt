@@ -10,7 +10,7 @@ use Rattle.text.proofs.writer.StartedText.effect.Goals as goal
 
 pub returns-then-not-has-room : goal.returns-then-not-has-room
 returns-then-not-has-room c =
-    let f = c.in-default.ensures in
+    let f = c.in_default.ensures in
     let n : 0 < c.args.self.actions = omega arith in
     record {
       answer = (
@@ -23,7 +23,7 @@ returns-then-not-has-room c =
 
 pub returns : goal.returns
 returns c =
-    let f = c.in-default.ensures in
+    let f = c.in_default.ensures in
     let n : 0 < c.args.self.actions = omega arith in
     let w : Wrote (started_mark c.args.self) _ (effect_is c.args.effect) c.args.out.now c.put-effect.new.out = record {
       place = effect_after c.args.self.actions n;
