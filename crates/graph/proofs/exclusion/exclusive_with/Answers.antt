@@ -13,4 +13,4 @@ pub returns : goal.returns
 returns c t ms sup clashes marks =
     excluded t (level_of c.args.layer.now) c.args.layer.now.facts c.args.facts c.args.atom (row c.args.supports.now) ms.few (omega arith)
     (self_marks _) sup marks c.beaten-nodes.result (c.beaten-nodes.ensures t ms sup clashes) _ _ _ _
-    c.without.ensures.members c.union-of.ensures c.without-2.ensures.members c.without-3.ensures.members (c.if-not-has.ensures.0 refl)
+    c.without.ensures.members c.union_of.ensures c.without-2.ensures.members c.without-3.ensures.members (c.if-not-has.ensures.0 refl)

@@ -13,8 +13,8 @@ loop-atom-preserved c = (
   length-set c.loop-atom.rows c.loop-atom.atom _ ∙ c.loop-atom.invariant.0,
   fill_more (λ f x. (t : Task) → MovesOf t c.args.links.now.moves → SupportsOf t (level_of c.args.layer.now) c.args.supports.now
       → Marks c.args.facts (Supported t (level_of c.args.layer.now)) → Marks x (Excludes t (level_of c.args.layer.now) f))
-      c.loop-atom.rows c.loop-atom.atom c.exclusive-with.result (omega (arith, c.loop-atom.invariant.0, c.loop-atom-test.true)) c.loop-atom.invariant.1
-      (λ t ms sup marks. c.exclusive-with.ensures t ms sup (c.clashes-of-clashes.ensures t ms) marks),
+      c.loop-atom.rows c.loop-atom.atom c.exclusive_with.result (omega (arith, c.loop-atom.invariant.0, c.loop-atom-test.true)) c.loop-atom.invariant.1
+      (λ t ms sup marks. c.exclusive_with.ensures t ms sup (c.clashes_of-clashes.ensures t ms) marks),
 )
 
 pub returns : goal.returns

@@ -20,11 +20,11 @@ loop-index-preserved c =
         length-set c.loop-index.deletes k _ ∙ c.loop-index.invariant.0.2,
       ),
       fill_more (λ i x. Marks x (Needs t (action i))) c.loop-index.needs k _ (omega (arith, c.loop-index.invariant.0.0)) c.loop-index.invariant.1
-          (need_marks t k _ c.precondition-of-precondition.ensures),
+          (need_marks t k _ c.precondition_of-precondition.ensures),
       fill_more (λ i x. Marks x (Uses t (action i))) c.loop-index.uses k _ (omega (arith, c.loop-index.invariant.0.1)) c.loop-index.invariant.2
-          (use_marks t k _ _ c.precondition-of-precondition.ensures c.sure-change-change.ensures.add),
+          (use_marks t k _ _ c.precondition_of-precondition.ensures c.sure_change-change.ensures.add),
       fill_more (λ i x. Marks x (SureDelete t (action i))) c.loop-index.deletes k _ (omega (arith, c.loop-index.invariant.0.2)) c.loop-index.invariant.3
-          c.sure-change-change.ensures.delete,
+          c.sure_change-change.ensures.delete,
     )
 
 pub returns : goal.returns

@@ -17,5 +17,5 @@ loop-e-preserved c = elim c.if-together.branch [
 
 pub returns : goal.returns
 returns c =
-    supported (task_of c.args.problem.now) (level_of c.args.layer.now) c.args.index _ _ _ c.requires c.precondition-of-precondition.ensures c.effects-of-effects.ensures
+    supported (task_of c.args.problem.now) (level_of c.args.layer.now) c.args.index _ _ _ c.requires c.precondition_of-precondition.ensures c.effects_of-effects.ensures
     (counted_all _ _ _ _ _ c.loop-e-test.false c.loop-e.invariant)

@@ -14,10 +14,10 @@ loop-index-init c = (refl, (λ k lt. absurd (let z : ⊥ = omega arith in z)), �
 pub loop-index-preserved : goal.loop-index-preserved
 loop-index-preserved c =
     let few : length c.args.problem.now.actions.now ≤ 64 = c.args.problem.now.sized.2 in (
-      length-set c.loop-index.rows c.loop-index.index c.supported-by.result ∙ c.loop-index.invariant.0,
-      fill_more (λ k x. Marks x (Supports (task_of c.args.problem.now) (level_of c.args.layer.now) (action k))) c.loop-index.rows c.loop-index.index c.supported-by.result
-          (omega (arith, c.loop-index.invariant.0, c.loop-index-test.true)) c.loop-index.invariant.1 c.supported-by.ensures,
-      rest_empty c.loop-index.rows c.loop-index.index c.supported-by.result c.loop-index.invariant.2,
+      length-set c.loop-index.rows c.loop-index.index c.supported_by.result ∙ c.loop-index.invariant.0,
+      fill_more (λ k x. Marks x (Supports (task_of c.args.problem.now) (level_of c.args.layer.now) (action k))) c.loop-index.rows c.loop-index.index c.supported_by.result
+          (omega (arith, c.loop-index.invariant.0, c.loop-index-test.true)) c.loop-index.invariant.1 c.supported_by.ensures,
+      rest_empty c.loop-index.rows c.loop-index.index c.supported_by.result c.loop-index.invariant.2,
     )
 
 pub returns : goal.returns

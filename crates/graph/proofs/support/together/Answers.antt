@@ -6,8 +6,8 @@ use Rattle.graph.proofs.support.together.Goals as goal
 
 pub returns-then-inside : goal.returns-then-inside
 returns-then-inside c = (
-  (λ e. apart_together (level_of c.args.layer.now) c.args.set c.union-of.result c.union-of.ensures (c.if-inside.ensures.0 refl) (c.apart.ensures.0 e)),
-  λ h. c.apart.ensures.1 (together_apart (level_of c.args.layer.now) c.args.set c.union-of.result c.union-of.ensures h),
+  (λ e. apart_together (level_of c.args.layer.now) c.args.set c.union_of.result c.union_of.ensures (c.if-inside.ensures.0 refl) (c.apart.ensures.0 e)),
+  λ h. c.apart.ensures.1 (together_apart (level_of c.args.layer.now) c.args.set c.union_of.result c.union_of.ensures h),
 )
 
 pub returns-else-inside : goal.returns-else-inside

@@ -13,9 +13,9 @@ returns-then-met c =
     let g = goal' c.args.need c.args.avoid in
     let at = c.in-Some.ensures in
     let inv = c.loop-state.invariant in
-    subst (λ (n : ℕ). Solves task g n (vec_items c.in-ok-steps-to.field-0)) inv.1
+    subst (λ (n : ℕ). Solves task g n (vec_items c.in_ok-steps_to.field-0)) inv.1
     (solves task g c.loop-state.tree c.loop-state.next inv.0 at.0
-    (subst (λ (s : ℕ). Meets g s) at.1 (c.if-met.ensures.0 refl)) _ c.in-ok-steps-to.ensures)
+    (subst (λ (s : ℕ). Meets g s) at.1 (c.if-met.ensures.0 refl)) _ c.in_ok-steps_to.ensures)
 
 pub loop-state-preserved : goal.loop-state-preserved
 loop-state-preserved c =
@@ -25,7 +25,7 @@ loop-state-preserved c =
     let inv = c.loop-state.invariant in
     let alike = c.grow.ensures.bounds in (
       explored_more task g c.loop-state.tree c.loop-state.next inv.0 (problem_fits c.args.problem.now).few_actions c.grow.new.self
-          at.0 alike c.in-ok-grow.ensures.cases
+          at.0 alike c.in_ok-grow.ensures.cases
           (subst (λ (s : ℕ). Meets g s → ⊥) at.1 (λ m. false≢true (c.if-met.ensures.1 m))),
       alike.0 ∙ inv.1,
       alike.1 ∙ inv.2,

@@ -7,22 +7,22 @@ use Rattle.regression.proofs.Masks.{so}
 use Rattle.regression.proofs.Concerning.{fine_judged}
 use Rattle.regression.proofs.calm.fine.Goals as goal
 
-pub unhurt-by-near-requires : goal.unhurt-by-near-requires
-unhurt-by-near-requires c = record {
+pub unhurt_by-near-requires : goal.unhurt_by-near-requires
+unhurt_by-near-requires c = record {
   does = does_own _ _ _ _ c.of.result (c.of.ensures _ c.args.step c.requires.tells c.requires.member);
-  tells = tells_part _ c.args.step c.without-one-others.result c.args.doings.now
-      (λ k h. minus_in c.args.step _ k (so _ _ k c.without-one-others.ensures h)) c.requires.tells;
+  tells = tells_part _ c.args.step c.without_one-others.result c.args.doings.now
+      (λ k h. minus_in c.args.step _ k (so _ _ k c.without_one-others.ensures h)) c.requires.tells;
 }
 
-pub rest-all-far-requires : goal.rest-all-far-requires
-rest-all-far-requires c =
-    tells_part _ c.args.step c.without-one-others.result c.args.doings.now
-    (λ k h. minus_in c.args.step _ k (so _ _ k c.without-one-others.ensures h)) c.requires.tells
+pub rest_all-far-requires : goal.rest_all-far-requires
+rest_all-far-requires c =
+    tells_part _ c.args.step c.without_one-others.result c.args.doings.now
+    (λ k h. minus_in c.args.step _ k (so _ _ k c.without_one-others.ensures h)) c.requires.tells
 
 pub returns : goal.returns
 returns c =
     fine_judged (task_of c.args.problem.now).at c.args.step c.args.i c.requires.member c.args.doings.now.lo c.args.doings.now.hi
-    c.without-one-others.result c.without-one-others.ensures c.of.result.action c.precondition-of.result c.effects-of.result.now
-    (c.of.ensures _ c.args.step c.requires.tells c.requires.member).action c.precondition-of.ensures c.effects-of.ensures
-    c.ready-own.result c.unhurt-by-near.result c.rest-all-far.result c.both.result c.both-2.result c.both.ensures c.both-2.ensures
-    c.ready-own.ensures c.unhurt-by-near.ensures c.rest-all-far.ensures
+    c.without_one-others.result c.without_one-others.ensures c.of.result.action c.precondition_of.result c.effects_of.result.now
+    (c.of.ensures _ c.args.step c.requires.tells c.requires.member).action c.precondition_of.ensures c.effects_of.ensures
+    c.ready-own.result c.unhurt_by-near.result c.rest_all-far.result c.both.result c.both-2.result c.both.ensures c.both-2.ensures
+    c.ready-own.ensures c.unhurt_by-near.ensures c.rest_all-far.ensures

@@ -13,4 +13,4 @@ returns-then-without-ne0 c =
 pub returns : goal.returns
 returns c =
     ready_asked c.args.lo c.args.hi c.args.precondition c.without-missing.result c.without-missing.ensures.is
-    c.if-missing-eq0.false c.ask-for.result c.ask-for.ensures
+    c.if-missing-eq0.false c.ask_for.result c.ask_for.ensures

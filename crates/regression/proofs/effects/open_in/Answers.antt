@@ -3,7 +3,7 @@ use Rattle.regression.proofs.effects.open_in.Goals as goal
 
 pub loop-i-preserved : goal.loop-i-preserved
 loop-i-preserved c =
-    rw c.wanted-of-ask.ensures (gather_more _ _ _ _ _ c.loop-i.invariant c.in-Some.i c.in-Some.ensures)
+    rw c.wanted_of-ask.ensures (gather_more _ _ _ _ _ c.loop-i.invariant c.in-Some.i c.in-Some.ensures)
 
 pub returns : goal.returns
 returns c = gather_all _ _ _ _ _ c.loop-i.invariant c.in_default.ensures

@@ -8,14 +8,14 @@ use Rattle.regression.specs.Nodes.{Expanded}
 use Rattle.regression.proofs.Masks.{nothing, and_left, minus_from, so}
 use Rattle.regression.proofs.Splitting.{expanded_as, known_lies, closed_lies, torn_none, no_step_none}
 use Rattle.regression.proofs.expand.expand.Goals as goal
-use Rattle.regression.proofs.expand.expand.Goals.{then-not-apart-via-then-not-apart, then-not-apart-via-else-not-apart+then-not-is-step, else-open-ne0-via-then-open-ne0+else-chosen-problem, else-open-ne0-via-else-open-ne0}
+use Rattle.regression.proofs.expand.expand.Goals.{then-not-apart-via-then-not-apart, then-not-apart-via-else-not-apart+then-not-is_step, else-open-ne0-via-then-open-ne0+else-chosen-problem, else-open-ne0-via-else-open-ne0}
 
 pub returns-then-not-apart : goal.returns-then-not-apart
 returns-then-not-apart c s step pair l = elim c.then-not-apart.branch [
   | then-not-apart-via-then-not-apart w ↦ torn_none c.args.node (λ f. false≢true (w.if-not-apart.ensures.1 f)) s step l
-  | then-not-apart-via-else-not-apart+then-not-is-step w ↦
+  | then-not-apart-via-else-not-apart+then-not-is_step w ↦
       no_step_none (task_of c.args.problem.now) (region_goal c.args.aim) c.args.node c.args.problem.now.sized.2
-      (λ f. false≢true (w.if-not-is-step.ensures.1 f)) s step pair l
+      (λ f. false≢true (w.if-not-is_step.ensures.1 f)) s step pair l
 ]
 
 pub returns-then-chosen-problem : goal.returns-then-chosen-problem
@@ -24,7 +24,7 @@ returns-then-chosen-problem c =
     let q = region_goal c.args.aim in
     let few : t.count ≤ 64 = c.args.problem.now.sized.2 in
     expanded_as t q c.args.node c.without-open.result
-    (known_lies t q c.args.node c.without-open.result c.all-below.result (λ k h. c.all-below.ensures.all k (omega arith)) c.without-open.ensures.is)
+    (known_lies t q c.args.node c.without-open.result c.all_below.result (λ k h. c.all_below.ensures.all k (omega arith)) c.without-open.ensures.is)
     (λ k h. and_left _ _ k (minus_from _ _ k (so _ _ k c.without-open.ensures.is h)))
     c.choose.result (c.choose.ensures q)
 
@@ -41,6 +41,6 @@ returns-else-open-ne0 c =
     ] in
     expanded_as t q n 0
     (λ s step pair l. closed_lies t q n open' few shut s step pair
-    (known_lies t q n open' c.all-below.result (λ k h. c.all-below.ensures.all k (omega arith)) c.without-open.ensures.is s step pair l))
+    (known_lies t q n open' c.all_below.result (λ k h. c.all_below.ensures.all k (omega arith)) c.without-open.ensures.is s step pair l))
     (λ k h. absurd (nothing k h))
     c.settle.result c.settle.ensures

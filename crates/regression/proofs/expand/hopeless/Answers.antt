@@ -5,12 +5,12 @@ use Rattle.regression.specs.Spans.{Between, UnhurtBy}
 use Rattle.regression.proofs.Splitting.{hurt_hopeless}
 use Rattle.regression.proofs.expand.hopeless.Goals as goal
 
-pub doings-of-doings-requires : goal.doings-of-doings-requires
-doings-of-doings-requires c = omega (arith, c.requires.few, c.args.problem.now.sized.1.1)
+pub doings_of-doings-requires : goal.doings_of-doings-requires
+doings_of-doings-requires c = omega (arith, c.requires.few, c.args.problem.now.sized.1.1)
 
 pub returns-in-No : goal.returns-in-No
 returns-in-No c = λ _.
     hurt_hopeless c.args.problem.now c.args.chosen c.args.region (omega arith) (omega arith)
     (subst₂ (λ (x y : ℕ). (s : ℕ) → Between x y s
     → ((i : ℕ) → Has c.args.chosen i → UnhurtBy (task_of c.args.problem.now).at i (minus c.args.chosen (2 ^ i)) s s) → ⊥)
-    c.doings-of-doings.ensures.from c.doings-of-doings.ensures.to c.in-No.ensures)
+    c.doings_of-doings.ensures.from c.doings_of-doings.ensures.to c.in-No.ensures)

@@ -15,10 +15,10 @@ pub returns-then-open-ne0 : goal.returns-then-open-ne0
 returns-then-open-ne0 c =
     cleared_open (task_of c.args.problem.now).at c.args.lo c.args.hi c.args.step c.args.avoid _ _ c.requires.sure c.requires.may
     c.without-may.result c.without-may.ensures.is c.if-may-eq0.false
-    c.without-open.result c.without-open.ensures.is c.if-open-ne0.true c.ask-for.result c.ask-for.ensures
+    c.without-open.result c.without-open.ensures.is c.if-open-ne0.true c.ask_for.result c.ask_for.ensures
 
 pub returns : goal.returns
 returns c =
     cleared_asked (task_of c.args.problem.now).at c.args.lo c.args.hi c.args.step c.args.avoid _ _ c.requires.sure c.requires.may
     c.without-may.result c.without-may.ensures.is c.if-may-eq0.false
-    c.without-open.result c.without-open.ensures.is c.if-open-ne0.false _ c.open-of.ensures _ c.ask-for-2.ensures
+    c.without-open.result c.without-open.ensures.is c.if-open-ne0.false _ c.open_of.ensures _ c.ask_for-2.ensures

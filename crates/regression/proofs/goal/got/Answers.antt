@@ -19,10 +19,10 @@ pub returns-then-may-hi-ne0 : goal.returns-then-may-hi-ne0
 returns-then-may-hi-ne0 c =
     got_open (task_of c.args.problem.now).at c.args.lo c.args.hi c.args.step c.args.need _ _ c.requires.sure c.requires.may
     c.without-may.result (rw c.without.ensures.is at c.without-may.ensures.is) c.if-may-eq0.false
-    c.if-may-hi-ne0.true c.ask-for.result c.ask-for.ensures
+    c.if-may-hi-ne0.true c.ask_for.result c.ask_for.ensures
 
 pub returns : goal.returns
 returns c =
     got_asked (task_of c.args.problem.now).at c.args.lo c.args.hi c.args.step c.args.need _ _ c.requires.sure c.requires.may
     c.without-may.result (rw c.without.ensures.is at c.without-may.ensures.is) c.if-may-eq0.false
-    c.if-may-hi-ne0.false _ c.open-of.ensures _ c.ask-for-2.ensures
+    c.if-may-hi-ne0.false _ c.open_of.ensures _ c.ask_for-2.ensures

@@ -11,4 +11,4 @@ returns-then-need-cut-ne0 c = kept_no (task_of c.args.problem.now).at c.args.lo 
 pub returns : goal.returns
 returns c =
     kept_asked (task_of c.args.problem.now).at c.args.lo c.args.hi c.args.step c.args.need _ _ c.requires.sure c.requires.may
-    c.if-may-eq0.false _ c.open-of.ensures c.ask-for.result c.ask-for.ensures
+    c.if-may-eq0.false _ c.open_of.ensures c.ask_for.result c.ask_for.ensures

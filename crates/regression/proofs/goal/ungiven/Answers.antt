@@ -11,4 +11,4 @@ returns-then-avoid-give-ne0 c = ungiven_no (task_of c.args.problem.now).at c.arg
 pub returns : goal.returns
 returns c =
     ungiven_asked (task_of c.args.problem.now).at c.args.lo c.args.hi c.args.step c.args.avoid _ _ c.requires.sure c.requires.may
-    c.if-may-eq0.false _ c.open-of.ensures c.ask-for.result c.ask-for.ensures
+    c.if-may-eq0.false _ c.open_of.ensures c.ask_for.result c.ask_for.ensures

@@ -20,5 +20,5 @@ returns c =
     unhurt_asked (task_of c.args.problem.now).at c.args.lo c.args.hi c.args.a.action c.args.b.action _
     (simp (c.requires.first.give_may, c.requires.first.read_may, c.requires.second.cut_may)) c.without-own.result _
     (c.without-own.ensures.is ∙ simp c.requires.first.read_sure)
-    (simp (c.open-in-of-a.ensures, c.open-in-of-b.ensures, c.effects-of.ensures, c.effects-of-2.ensures))
-    c.if-may-eq0.false c.ask-for.result c.ask-for.ensures
+    (simp (c.open_in-of_a.ensures, c.open_in-of_b.ensures, c.effects_of.ensures, c.effects_of-2.ensures))
+    c.if-may-eq0.false c.ask_for.result c.ask_for.ensures

@@ -11,4 +11,4 @@ returns-in-No c =
 pub returns : goal.returns
 returns c =
     certain_judged (task_of c.args.problem.now).at c.args.doings.now.lo c.args.doings.now.hi c.args.step (region_goal c.args.aim)
-    c.all-fine.result c.reaches-reached.result c.both.result c.both.ensures c.all-fine.ensures c.reaches-reached.ensures
+    c.all_fine.result c.reaches-reached.result c.both.result c.both.ensures c.all_fine.ensures c.reaches-reached.ensures

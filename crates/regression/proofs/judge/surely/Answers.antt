@@ -8,20 +8,20 @@ use Rattle.regression.specs.Verdicts.{Judged}
 use Rattle.regression.proofs.Reaching.{sure_yes, need_below}
 use Rattle.regression.proofs.judge.surely.Goals as goal
 
-pub doings-of-doings-requires : goal.doings-of-doings-requires
-doings-of-doings-requires c = omega (arith, c.requires.step.few, c.args.problem.now.sized.1.1)
+pub doings_of-doings-requires : goal.doings_of-doings-requires
+doings_of-doings-requires c = omega (arith, c.requires.step.few, c.args.problem.now.sized.1.1)
 
 pub returns-in-Yes : goal.returns-in-Yes
 returns-in-Yes c = (
   (λ _. subst₂ (λ (x y : ℕ). Sure (task_of c.args.problem.now).at c.args.step (region_goal c.args.aim) x y)
-      c.doings-of-doings.ensures.from c.doings-of-doings.ensures.to c.in-Yes.ensures),
+      c.doings_of-doings.ensures.from c.doings_of-doings.ensures.to c.in-Yes.ensures),
   λ _. refl,
 )
 
-pub returns-in-default : goal.returns-in-default
-returns-in-default c =
-    let from = c.doings-of-doings.ensures.from in
-    let to = c.doings-of-doings.ensures.to in
+pub returns-in_default : goal.returns-in_default
+returns-in_default c =
+    let from = c.doings_of-doings.ensures.from in
+    let to = c.doings_of-doings.ensures.to in
     let at = (task_of c.args.problem.now).at in
     let q = region_goal c.args.aim in (
       (λ z. absurd (false≢true z)),

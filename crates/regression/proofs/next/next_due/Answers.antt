@@ -8,16 +8,16 @@ use Rattle.regression.specs.declared.node.Node.{Node}
 use Rattle.regression.proofs.Stacking.{carried_none, part_fits, turn_drop, turn_drop_less, turn_split, turn_split_less, turn_room, turn_brings}
 use Rattle.regression.proofs.next.next_due.Goals as goal
 
-pub returns-then-count-saturating-sub : goal.returns-then-count-saturating-sub
-returns-then-count-saturating-sub g c = record {
+pub returns-then-count-saturating_sub : goal.returns-then-count-saturating_sub
+returns-then-count-saturating_sub g c = record {
   finds = (
     carried_none (task_of c.args.problem.now) (region_goal c.args.aim) _ _,
     λ o room. omega (
       arith,
       room,
       part_fits (task_of c.args.problem.now) (region_goal c.args.aim) c.args.nodes.now c.args.part.start c.args.part.count o,
-      c.if-count-saturating-sub.true,
-      c.saturating-sub.ensures,
+      c.if-count-saturating_sub.true,
+      c.saturating_sub.ensures,
     ),
   );
   below = refl;
@@ -25,7 +25,7 @@ returns-then-count-saturating-sub g c = record {
 
 pub loop-left-init : goal.loop-left-init
 loop-left-init g c = (
-  omega (arith, c.if-count-saturating-sub.false, c.saturating-sub.ensures),
+  omega (arith, c.if-count-saturating_sub.false, c.saturating_sub.ensures),
   refl,
   refl,
   carried_none (task_of c.args.problem.now) (region_goal c.args.aim) _ _,

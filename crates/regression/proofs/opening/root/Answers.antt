@@ -23,10 +23,10 @@ loop-i-preserved c =
     elim c.if-helps.branch [
       | then-helps w ↦ rw w.candidates-is
           (found_more H i c.loop-i.candidates _ (shift_one i few)
-          (subst (λ (y : List EffectRow). Helps q y) c.effects-of.ensures (c.helps.ensures.0 w.if-helps.true)) c.loop-i.invariant)
+          (subst (λ (y : List EffectRow). Helps q y) c.effects_of.ensures (c.helps.ensures.0 w.if-helps.true)) c.loop-i.invariant)
       | else-helps w ↦ rw w.candidates-is
           (found_same H i c.loop-i.candidates
-          (λ h. false≢true (sym w.if-helps.false ∙ c.helps.ensures.1 (subst (λ (y : List EffectRow). Helps q y) (sym c.effects-of.ensures) h))) c.loop-i.invariant)
+          (λ h. false≢true (sym w.if-helps.false ∙ c.helps.ensures.1 (subst (λ (y : List EffectRow). Helps q y) (sym c.effects_of.ensures) h))) c.loop-i.invariant)
     ]
 
 pub returns : goal.returns

@@ -17,11 +17,11 @@ returns-then-missing-hi-ne0 c =
     rest_open (task_of c.args.problem.now).at c.args.doings.now.lo c.args.doings.now.hi c.args.others c.args.condition
     c.help-gain.result (c.help-gain.ensures _ c.requires) c.without-missing.result c.without-missing.ensures.is
     c.without-absent.result c.without-absent.ensures.is c.if-absent-gain.false c.if-missing-gain-eq0.false
-    c.if-missing-hi-ne0.true c.ask-for.result c.ask-for.ensures
+    c.if-missing-hi-ne0.true c.ask_for.result c.ask_for.ensures
 
 pub returns : goal.returns
 returns c =
     rest_asked (task_of c.args.problem.now).at c.args.doings.now.lo c.args.doings.now.hi c.args.others c.args.condition
     c.help-gain.result (c.help-gain.ensures _ c.requires) c.without-missing.result c.without-missing.ensures.is
     c.without-absent.result c.without-absent.ensures.is c.if-absent-gain.false c.if-missing-gain-eq0.false
-    c.if-missing-hi-ne0.false c.open-of.result c.open-of.ensures _ c.ask-for-2.ensures
+    c.if-missing-hi-ne0.false c.open_of.result c.open_of.ensures _ c.ask_for-2.ensures

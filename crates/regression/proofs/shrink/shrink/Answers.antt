@@ -14,17 +14,17 @@ loop-left-init c = tried_start (task_of c.args.problem.now) (region_goal c.args.
 pub surely-requires : goal.surely-requires
 surely-requires c = record {
   step = c.requires.step;
-  apart = λ k n a. c.requires.apart k n (c.loop-left.invariant.part k (minus_in c.loop-left.avoid _ k (so _ _ k c.without-one-fewer.ensures a)));
+  apart = λ k n a. c.requires.apart k n (c.loop-left.invariant.part k (minus_in c.loop-left.avoid _ k (so _ _ k c.without_one-fewer.ensures a)));
 }
 
 pub loop-left-preserved : goal.loop-left-preserved
 loop-left-preserved c = elim c.if-surely.branch [
   | then-surely w ↦ rw w.avoid-is
       (tried_taken (task_of c.args.problem.now) (region_goal c.args.aim) c.args.step c.args.region (omega arith) c.loop-left.left c.loop-left.avoid
-      c.loop-left-test.true c.loop-left.invariant c.without-one-fewer.result c.without-one-fewer.ensures (c.surely.ensures.0 w.if-surely.true))
+      c.loop-left-test.true c.loop-left.invariant c.without_one-fewer.result c.without_one-fewer.ensures (c.surely.ensures.0 w.if-surely.true))
   | else-surely w ↦ rw w.avoid-is
       (tried_kept (task_of c.args.problem.now) (region_goal c.args.aim) c.args.step c.args.region (omega arith) c.loop-left.left c.loop-left.avoid
-      c.loop-left-test.true c.loop-left.invariant c.without-one-fewer.result c.without-one-fewer.ensures
+      c.loop-left-test.true c.loop-left.invariant c.without_one-fewer.result c.without_one-fewer.ensures
       (λ f. false≢true (sym w.if-surely.false ∙ c.surely.ensures.1 f)))
 ]
 

@@ -7,7 +7,7 @@ use Rattle.regression.proofs.Rows.{filled_none, filled_more, filled_tells}
 use Rattle.regression.proofs.summing.doings_of.Goals as goal
 
 pub loop-left-init : goal.loop-left-init
-loop-left-init c = ((λ k h. h), omega (arith, c.requires), refl, filled_none _ _ _ _ _ c.no-doing-rows.ensures)
+loop-left-init c = ((λ k h. h), omega (arith, c.requires), refl, filled_none _ _ _ _ _ c.no_doing-rows.ensures)
 
 pub loop-left-preserved : goal.loop-left-preserved
 loop-left-preserved c =

@@ -11,7 +11,7 @@ loop-left-preserved c =
     let sub = c.loop-left.invariant.0 in (
       still_in c.loop-left.left c.args.step sub (omega arith) c.loop-left-test.true,
       λ at t. union_more c.args.step c.loop-left.left sub (omega arith) c.loop-left-test.true _ _ _
-          (c.help-of-may.ensures at _ _ _
+          (c.help_of-may.ensures at _ _ _
           (c.of.ensures at c.args.step t (pick_in c.loop-left.left c.args.step sub (omega arith) c.loop-left-test.true)))
           (c.loop-left.invariant.1 at t),
     )

@@ -10,7 +10,7 @@ pub loop-left-preserved : goal.loop-left-preserved
 loop-left-preserved c = (
   still_in c.loop-left.left c.args.step c.loop-left.invariant.0 (omega arith) c.loop-left-test.true,
   union_more c.args.step c.loop-left.left c.loop-left.invariant.0 (omega arith) c.loop-left-test.true _ _ _
-      (simp (c.open-in-ask.ensures, c.effects-of-effects.ensures)) c.loop-left.invariant.1,
+      (simp (c.open_in-ask.ensures, c.effects_of-effects.ensures)) c.loop-left.invariant.1,
 )
 
 pub returns : goal.returns

@@ -13,67 +13,67 @@ use Rattle.text.proofs.checker.check_rows.Goals as goal
 pub loop-found-init : goal.loop-found-init
 loop-found-init c = walk_start c.args.text.now c.args.size.atoms c.args.size.hands c.args.first
 
-pub returns-in-err-tally : goal.returns-in-err-tally
-returns-in-err-tally c =
-    let r = c.in-ok-found.ensures in
-    let t = decoded c.args.text.now c.loop-found.at c.in-ok-found.found _ (bytes_under _ c.type-inv.text) r.0 r.1 c.in-Action.is (omega arith) in
-    let a = action_read c.args.text.now c.loop-found.at _ c.set-at.result c.in-Action.body t c.set-at.ensures in
-    let p = err_from_is_err_and c.from-residual-in-err-tally.result c.from-residual-in-err-tally.ensures.1 in
-    let e = c.in-err-tally.ensures in
-    rw (p.1, p.2, e.1) (walk_misfit c.args.text.now _ _ _ c.loop-found.at c.loop-found.tally (action_is c.set-at.result) c.loop-found.invariant a.0
+pub returns-in_err-tally : goal.returns-in_err-tally
+returns-in_err-tally c =
+    let r = c.in_ok-found.ensures in
+    let t = decoded c.args.text.now c.loop-found.at c.in_ok-found.found _ (bytes_under _ c.type_inv.text) r.0 r.1 c.in-Action.is (omega arith) in
+    let a = action_read c.args.text.now c.loop-found.at _ c.set_at.result c.in-Action.body t c.set_at.ensures in
+    let p = err_from_is_err_and c.from_residual-in_err-tally.result c.from_residual-in_err-tally.ensures.1 in
+    let e = c.in_err-tally.ensures in
+    rw (p.1, p.2, e.1) (walk_misfit c.args.text.now _ _ _ c.loop-found.at c.loop-found.tally (action_is c.set_at.result) c.loop-found.invariant a.0
     (subst (λ (x : Record). InPlace c.loop-found.tally.place (kind_of x)) c.in-Action.is r.2) e.0 e.2)
 
-pub returns-in-err-tally-2 : goal.returns-in-err-tally-2
-returns-in-err-tally-2 c =
-    let r = c.in-ok-found.ensures in
-    let t = decoded c.args.text.now c.loop-found.at c.in-ok-found.found _ (bytes_under _ c.type-inv.text) r.0 r.1 c.in-Effect.is (omega arith) in
-    let a = effect_read c.args.text.now c.loop-found.at _ c.effect-in.result c.in-Effect.body t c.effect-in.ensures in
-    let p = err_from_is_err_and c.from-residual-in-err-tally-2.result c.from-residual-in-err-tally-2.ensures.1 in
-    let e = c.in-err-tally-2.ensures in
-    rw (p.1, p.2, e.1) (walk_misfit c.args.text.now _ _ _ c.loop-found.at c.loop-found.tally (effect_is c.effect-in.result) c.loop-found.invariant a.0
+pub returns-in_err-tally-2 : goal.returns-in_err-tally-2
+returns-in_err-tally-2 c =
+    let r = c.in_ok-found.ensures in
+    let t = decoded c.args.text.now c.loop-found.at c.in_ok-found.found _ (bytes_under _ c.type_inv.text) r.0 r.1 c.in-Effect.is (omega arith) in
+    let a = effect_read c.args.text.now c.loop-found.at _ c.effect_in.result c.in-Effect.body t c.effect_in.ensures in
+    let p = err_from_is_err_and c.from_residual-in_err-tally-2.result c.from_residual-in_err-tally-2.ensures.1 in
+    let e = c.in_err-tally-2.ensures in
+    rw (p.1, p.2, e.1) (walk_misfit c.args.text.now _ _ _ c.loop-found.at c.loop-found.tally (effect_is c.effect_in.result) c.loop-found.invariant a.0
     (subst (λ (x : Record). InPlace c.loop-found.tally.place (kind_of x)) c.in-Effect.is r.2) e.0 e.2)
 
-pub returns-in-default : goal.returns-in-default
-returns-in-default c =
-    let r = c.in-ok-found.ensures in
-    let f = c.in-ok-found.found in
+pub returns-in_default : goal.returns-in_default
+returns-in_default c =
+    let r = c.in_ok-found.ensures in
+    let f = c.in_ok-found.found in
     let w = c.loop-found.invariant in
     let e = only_end f.record (w.rowed _ r.2) (place_high c.loop-found.tally.place _ r.2) c.in_default.not-Action c.in_default.not-Effect in
-    let t = decoded c.args.text.now c.loop-found.at f _ (bytes_under _ c.type-inv.text) r.0 r.1 e (omega arith) in (
+    let t = decoded c.args.text.now c.loop-found.at f _ (bytes_under _ c.type_inv.text) r.0 r.1 e (omega arith) in (
       w.rows,
       w.effects,
       walk_end c.args.text.now _ _ _ c.loop-found.at f.next c.loop-found.tally w t.reading
           (subst (λ (x : Record). InPlace c.loop-found.tally.place (kind_of x)) e r.2) t.after,
     )
 
-pub loop-found-smaller-in-ok-tally : goal.loop-found-smaller-in-ok-tally
-loop-found-smaller-in-ok-tally c =
-    let r = c.in-ok-found.ensures in
-    let i = found_inside c.args.text.now c.in-ok-found.found r.1 in
+pub loop-found-smaller-in_ok-tally : goal.loop-found-smaller-in_ok-tally
+loop-found-smaller-in_ok-tally c =
+    let r = c.in_ok-found.ensures in
+    let i = found_inside c.args.text.now c.in_ok-found.found r.1 in
     omega (arith, r.0)
 
-pub loop-found-preserved-in-ok-tally : goal.loop-found-preserved-in-ok-tally
-loop-found-preserved-in-ok-tally c =
-    let r = c.in-ok-found.ensures in
-    let t = decoded c.args.text.now c.loop-found.at c.in-ok-found.found _ (bytes_under _ c.type-inv.text) r.0 r.1 c.in-Action.is (omega arith) in
-    let a = action_read c.args.text.now c.loop-found.at _ c.set-at.result c.in-Action.body t c.set-at.ensures in
-    let e = c.in-ok-tally.ensures in
-    subst (λ (x : Tally). Walk c.args.text.now c.args.size.atoms c.args.size.hands c.args.first c.in-ok-found.found.next x) (sym e.0)
-    (walk_action c.args.text.now _ _ _ c.loop-found.at _ c.loop-found.tally c.set-at.result c.loop-found.invariant
+pub loop-found-preserved-in_ok-tally : goal.loop-found-preserved-in_ok-tally
+loop-found-preserved-in_ok-tally c =
+    let r = c.in_ok-found.ensures in
+    let t = decoded c.args.text.now c.loop-found.at c.in_ok-found.found _ (bytes_under _ c.type_inv.text) r.0 r.1 c.in-Action.is (omega arith) in
+    let a = action_read c.args.text.now c.loop-found.at _ c.set_at.result c.in-Action.body t c.set_at.ensures in
+    let e = c.in_ok-tally.ensures in
+    subst (λ (x : Tally). Walk c.args.text.now c.args.size.atoms c.args.size.hands c.args.first c.in_ok-found.found.next x) (sym e.0)
+    (walk_action c.args.text.now _ _ _ c.loop-found.at _ c.loop-found.tally c.set_at.result c.loop-found.invariant
     (subst (λ (x : Record). InPlace c.loop-found.tally.place (kind_of x)) c.in-Action.is r.2) a.0 e.1 e.2 a.1)
 
 pub loop-found-smaller : goal.loop-found-smaller
 loop-found-smaller c =
-    let r = c.in-ok-found.ensures in
-    let i = found_inside c.args.text.now c.in-ok-found.found r.1 in
+    let r = c.in_ok-found.ensures in
+    let i = found_inside c.args.text.now c.in_ok-found.found r.1 in
     omega (arith, r.0)
 
 pub loop-found-preserved : goal.loop-found-preserved
 loop-found-preserved c =
-    let r = c.in-ok-found.ensures in
-    let t = decoded c.args.text.now c.loop-found.at c.in-ok-found.found _ (bytes_under _ c.type-inv.text) r.0 r.1 c.in-Effect.is (omega arith) in
-    let a = effect_read c.args.text.now c.loop-found.at _ c.effect-in.result c.in-Effect.body t c.effect-in.ensures in
-    let e = c.in-ok-tally-2.ensures in
-    subst (λ (x : Tally). Walk c.args.text.now c.args.size.atoms c.args.size.hands c.args.first c.in-ok-found.found.next x) (sym e.0)
-    (walk_effect c.args.text.now _ _ _ c.loop-found.at _ c.loop-found.tally c.effect-in.result c.loop-found.invariant
+    let r = c.in_ok-found.ensures in
+    let t = decoded c.args.text.now c.loop-found.at c.in_ok-found.found _ (bytes_under _ c.type_inv.text) r.0 r.1 c.in-Effect.is (omega arith) in
+    let a = effect_read c.args.text.now c.loop-found.at _ c.effect_in.result c.in-Effect.body t c.effect_in.ensures in
+    let e = c.in_ok-tally-2.ensures in
+    subst (λ (x : Tally). Walk c.args.text.now c.args.size.atoms c.args.size.hands c.args.first c.in_ok-found.found.next x) (sym e.0)
+    (walk_effect c.args.text.now _ _ _ c.loop-found.at _ c.loop-found.tally c.effect_in.result c.loop-found.invariant
     (subst (λ (x : Record). InPlace c.loop-found.tally.place (kind_of x)) c.in-Effect.is r.2) a.0 e.1 e.2 a.1)

@@ -5,9 +5,9 @@ use Rattle.text.proofs.record.record_at.Goals as goal
 
 pub returns : goal.returns
 returns c =
-    let k = c.in-ok-kind.ensures in
-    let w = c.with-body-record.ensures in
-    let n : (c.args.at + 1 + c.body-length-size.result) - (c.args.at + 1) ≡ c.body-length-size.result = omega arith in
-    let b = record_stand c.args.text.now c.args.at (kind_of c.with-body-record.result) c.body-length-size.result (body_of c.with-body-record.result)
+    let k = c.in_ok-kind.ensures in
+    let w = c.with_body-record.ensures in
+    let n : (c.args.at + 1 + c.body_length-size.result) - (c.args.at + 1) ≡ c.body_length-size.result = omega arith in
+    let b = record_stand c.args.text.now c.args.at (kind_of c.with_body-record.result) c.body_length-size.result (body_of c.with_body-record.result)
     (omega arith) (w.kind ∙ k.1) (w.body ∙ ap (λ (x : ℕ). take x (drop (c.args.at + 1) c.args.text.now)) n) in
-    (refl, record { bytes = b.1; size = b.0 ∙ c.body-length-size.ensures ∙ ap body_length (sym w.kind); next = omega arith })
+    (refl, record { bytes = b.1; size = b.0 ∙ c.body_length-size.ensures ∙ ap body_length (sym w.kind); next = omega arith })

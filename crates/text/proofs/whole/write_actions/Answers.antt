@@ -17,20 +17,20 @@ pub loop-k-init : goal.loop-k-init
 unfolding actions_text
 loop-k-init c = append_none c.args.started c.args.out.now
 
-pub write-action-requires : goal.write-action-requires
-write-action-requires c =
+pub write_action-requires : goal.write_action-requires
+write_action-requires c =
     let p = c.args.problem.now in
     let k = c.loop-k.k in
     let x = c.loop-k.invariant in
     let h : k < length p.actions.now = c.loop-k-test.true in
     let m : c.loop-k.text.atoms ≡ p.atoms = x.atoms ∙ c.requires.atoms in
-    let a = same_action _ _ _ _ c.precondition-of.ensures c.effects-of.ensures in
+    let a = same_action _ _ _ _ c.precondition_of.ensures c.effects_of.ensures in
     record {
       few_actions = omega (arith, x.actions, c.requires.fresh, p.sized.2);
-      within = subst (λ (z : ℕ). Within z c.precondition-of.result) (sym m) (subst (Within p.atoms) (sym c.precondition-of.ensures) (p.named_preconditions k h));
-      few = omega (arith, ap length c.effects-of.ensures, effects_of_long p.actions.now p.effects.now p.placed k, p.sized.3 k h);
-      named = subst (λ (z : ℕ). EffectsNamed z c.effects-of.result.now) (sym m)
-          (subst (EffectsNamed p.atoms) (sym c.effects-of.ensures) (action_named p.atoms p.actions.now p.effects.now k p.named_effects));
+      within = subst (λ (z : ℕ). Within z c.precondition_of.result) (sym m) (subst (Within p.atoms) (sym c.precondition_of.ensures) (p.named_preconditions k h));
+      few = omega (arith, ap length c.effects_of.ensures, effects_of_long p.actions.now p.effects.now p.placed k, p.sized.3 k h);
+      named = subst (λ (z : ℕ). EffectsNamed z c.effects_of.result.now) (sym m)
+          (subst (EffectsNamed p.atoms) (sym c.effects_of.ensures) (action_named p.atoms p.actions.now p.effects.now k p.named_effects));
       room = omega (arith, x.len, c.requires.room, ap (λ (z : Action). length (action_text z)) a, actions_room (task_of p).at k (length p.actions.now) h);
     }
 
@@ -40,9 +40,9 @@ loop-k-preserved c =
     let k = c.loop-k.k in
     let x = c.loop-k.invariant in
     let h : k < length p.actions.now = c.loop-k-test.true in
-    let a = same_action _ _ _ _ c.precondition-of.ensures c.effects-of.ensures in
-    let g : Appends c.loop-k.text c.in-ok-text.text (action_text ((task_of p).at k)) 1 c.loop-k.out c.write-action.new.out =
-    subst (λ (z : Action). Appends c.loop-k.text c.in-ok-text.text (action_text z) 1 c.loop-k.out c.write-action.new.out) a c.in-ok-text.ensures in
-    subst (λ (l : List ℕ). Appends c.args.started c.in-ok-text.text l (k + 1) c.args.out.now c.write-action.new.out) (sym (actions_step (task_of p).at k))
-    (append_more c.args.started c.loop-k.text c.in-ok-text.text (actions_text (task_of p).at k) (action_text ((task_of p).at k)) k 1 c.args.out.now c.loop-k.out c.write-action.new.out
+    let a = same_action _ _ _ _ c.precondition_of.ensures c.effects_of.ensures in
+    let g : Appends c.loop-k.text c.in_ok-text.text (action_text ((task_of p).at k)) 1 c.loop-k.out c.write_action.new.out =
+    subst (λ (z : Action). Appends c.loop-k.text c.in_ok-text.text (action_text z) 1 c.loop-k.out c.write_action.new.out) a c.in_ok-text.ensures in
+    subst (λ (l : List ℕ). Appends c.args.started c.in_ok-text.text l (k + 1) c.args.out.now c.write_action.new.out) (sym (actions_step (task_of p).at k))
+    (append_more c.args.started c.loop-k.text c.in_ok-text.text (actions_text (task_of p).at k) (action_text ((task_of p).at k)) k 1 c.args.out.now c.loop-k.out c.write_action.new.out
     (omega (arith, c.requires.room, actions_room (task_of p).at k (length p.actions.now) h)) x g)

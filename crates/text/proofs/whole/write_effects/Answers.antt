@@ -16,10 +16,10 @@ use Rattle.text.proofs.whole.write_effects.Goals as goal
 pub loop-e-init : goal.loop-e-init
 loop-e-init c = (append_none c.args.started c.args.out.now, c.requires.fresh)
 
-pub returns-in-err-text : goal.returns-in-err-text
-returns-in-err-text c =
-    let b = c.in-err-text.ensures.answer in
-    let p = err_from_is_err_and c.from-residual.result c.from-residual.ensures.1 in
+pub returns-in_err-text : goal.returns-in_err-text
+returns-in_err-text c =
+    let b = c.in_err-text.ensures.answer in
+    let p = err_from_is_err_and c.from_residual.result c.from_residual.ensures.1 in
     let x = c.loop-e.invariant in
     let es = c.args.effects.now in
     let i = c.loop-e.e-index in
@@ -34,14 +34,14 @@ returns-in-err-text c =
 
 pub loop-e-preserved : goal.loop-e-preserved
 loop-e-preserved c =
-    let w = c.in-ok-text.ensures.answer in
+    let w = c.in_ok-text.ensures.answer in
     let x = c.loop-e.invariant in
     let es = c.args.effects.now in
     let i = c.loop-e.e-index in
-    let s = wrote_effect c.loop-e.text c.in-ok-text.text (effect_at es i) c.loop-e.out c.effect.new.out w in
+    let s = wrote_effect c.loop-e.text c.in_ok-text.text (effect_at es i) c.loop-e.out c.effect.new.out w in
     let h : length (effects_text (take i es)) ≤ length (effects_text es) = omega (arith, effects_long (take i es), effects_long es, length-take i es) in (
-      subst (λ (l : List ℕ). Appends c.args.started c.in-ok-text.text l 0 c.args.out.now c.effect.new.out) (sym (effects_more es i _ c.loop-e-test.true))
-          (append_more c.args.started c.loop-e.text c.in-ok-text.text (effects_text (take i es)) (item_text (effect_is (effect_at es i))) 0 0 c.args.out.now c.loop-e.out c.effect.new.out
+      subst (λ (l : List ℕ). Appends c.args.started c.in_ok-text.text l 0 c.args.out.now c.effect.new.out) (sym (effects_more es i _ c.loop-e-test.true))
+          (append_more c.args.started c.loop-e.text c.in_ok-text.text (effects_text (take i es)) (item_text (effect_is (effect_at es i))) 0 0 c.args.out.now c.loop-e.out c.effect.new.out
           (omega (arith, c.requires.room)) x.0 s.0),
       omega (arith, s.1, x.1),
     )

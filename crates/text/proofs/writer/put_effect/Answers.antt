@@ -15,6 +15,6 @@ returns c =
     let l1 = length_bytes_of 8 c.args.effect.condition in
     let l2 = length_bytes_of 8 c.args.effect.add in
     let l3 = length-append x y in
-    let p = put_on xs i x y c.put-set-record.ensures (omega arith) (omega arith) c.put-set.ensures in
-    let q = put_on xs i (x ++ y) z p (omega arith) (omega arith) c.put-set-2.ensures in
+    let p = put_on xs i x y c.put_set_record.ensures (omega arith) (omega arith) c.put_set.ensures in
+    let q = put_on xs i (x ++ y) z p (omega arith) (omega arith) c.put_set-2.ensures in
     q ∙ ap (put xs i) (append_assoc x y z)

@@ -7,6 +7,6 @@ pub returns : goal.returns
 returns c =
     let xs = c.args.out.now in
     let i = c.args.at in
-    c.put-set.ensures
+    c.put_set.ensures
     ∙ ap (λ (l : List ℕ). put l (i + 1) (bytes_of 8 c.args.set)) (put_one xs i c.args.kind (omega arith))
     ∙ put_put xs i (i + 1) (c.args.kind ∷ []) (bytes_of 8 c.args.set) refl (omega arith)

@@ -18,19 +18,19 @@ loop-n-preserved c =
     let t : Task = task_of c.args.problem.now in
     let n : ℕ = c.loop-n.n in
     let g : Graph = c.loop-n.graph in
-    let g₁ : Graph = c.find-facts.new.self in
-    let g₂ : Graph = c.find-exclusions.new.self in
-    let rows = c.supports-of-supports.result in
+    let g₁ : Graph = c.find_facts.new.self in
+    let g₂ : Graph = c.find_exclusions.new.self in
+    let rows = c.supports_of-supports.result in
     let fits = problem_fits c.args.problem.now in
     let sup : SupportsOf t (level_in g n) rows = supports_over t (level_of c.layer.result) (level_in g n)
-    (layer_same c.layer.result g n c.layer.ensures.facts c.layer.ensures.rows) rows c.supports-of-supports.ensures in
-    let found : Marks (facts_at g₁ (n + 1)) (Supported t (level_in g n)) = c.find-facts.ensures.found t sup in
-    let kept = facts_kept t fits n g g₁ g₂ c.loop-n.invariant.1 found c.find-facts.ensures.others c.find-facts.ensures.rows n (omega arith) in (
-      c.find-exclusions.ensures.atoms ∙ c.find-facts.ensures.atoms ∙ c.loop-n.invariant.0,
-      grown t fits n g g₁ g₂ c.loop-n.invariant.1 found c.find-facts.ensures.others c.find-facts.ensures.rows
-          (c.find-exclusions.ensures.found t c.links-of-links.ensures (supports_over t (level_in g n) (level_in g₁ n) kept rows sup)
-          (facts_stand t fits n g g₁ g₂ c.loop-n.invariant.1 found c.find-facts.ensures.others c.find-facts.ensures.rows))
-          c.find-exclusions.ensures.others c.find-exclusions.ensures.facts,
+    (layer_same c.layer.result g n c.layer.ensures.facts c.layer.ensures.rows) rows c.supports_of-supports.ensures in
+    let found : Marks (facts_at g₁ (n + 1)) (Supported t (level_in g n)) = c.find_facts.ensures.found t sup in
+    let kept = facts_kept t fits n g g₁ g₂ c.loop-n.invariant.1 found c.find_facts.ensures.others c.find_facts.ensures.rows n (omega arith) in (
+      c.find_exclusions.ensures.atoms ∙ c.find_facts.ensures.atoms ∙ c.loop-n.invariant.0,
+      grown t fits n g g₁ g₂ c.loop-n.invariant.1 found c.find_facts.ensures.others c.find_facts.ensures.rows
+          (c.find_exclusions.ensures.found t c.links_of-links.ensures (supports_over t (level_in g n) (level_in g₁ n) kept rows sup)
+          (facts_stand t fits n g g₁ g₂ c.loop-n.invariant.1 found c.find_facts.ensures.others c.find_facts.ensures.rows))
+          c.find_exclusions.ensures.others c.find_exclusions.ensures.facts,
     )
 
 pub returns : goal.returns

@@ -13,9 +13,9 @@ returns c =
     layer_same c.layer.result c.args.self.now c.args.n c.layer.ensures.facts c.layer.ensures.rows in
     let back = turned (level_of c.layer.result) (level_in c.args.self.now c.args.n) same in
     record {
-      found = λ t ms sup facts f lt. subst (λ (x : ℕ). Marks x (Excludes t (level_in c.args.self.now c.args.n) f)) (sym (c.put-rows.ensures.put f lt))
-          (row_over t _ _ same _ f (c.next-exclusions-rows.ensures t ms (supports_over t _ _ back c.args.supports.now sup) (facts_over t _ _ back _ facts) f));
-      others = c.put-rows.ensures.others;
+      found = λ t ms sup facts f lt. subst (λ (x : ℕ). Marks x (Excludes t (level_in c.args.self.now c.args.n) f)) (sym (c.put_rows.ensures.put f lt))
+          (row_over t _ _ same _ f (c.next_exclusions-rows.ensures t ms (supports_over t _ _ back c.args.supports.now sup) (facts_over t _ _ back _ facts) f));
+      others = c.put_rows.ensures.others;
       facts = refl;
       atoms = refl;
     }

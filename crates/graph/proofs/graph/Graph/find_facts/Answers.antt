@@ -14,9 +14,9 @@ returns c =
     layer_same c.layer.result c.args.self.now c.args.n c.layer.ensures.facts c.layer.ensures.rows in
     record {
       found = λ t sup. subst (λ (x : ℕ). Marks x (Supported t (level_in c.args.self.now c.args.n)))
-          (sym (get_or-set_same c.args.self.now.facts (c.args.n + 1) c.next-facts-facts.result 0 (omega arith)))
-          (facts_over t _ _ same c.next-facts-facts.result (c.next-facts-facts.ensures t (supports_over t _ _ (turned _ _ same) c.args.supports.now sup)));
-      others = λ k ne. get_or-set_other c.args.self.now.facts (c.args.n + 1) k c.next-facts-facts.result 0 ne;
+          (sym (get_or-set_same c.args.self.now.facts (c.args.n + 1) c.next_facts-facts.result 0 (omega arith)))
+          (facts_over t _ _ same c.next_facts-facts.result (c.next_facts-facts.ensures t (supports_over t _ _ (turned _ _ same) c.args.supports.now sup)));
+      others = λ k ne. get_or-set_other c.args.self.now.facts (c.args.n + 1) k c.next_facts-facts.result 0 ne;
       rows = refl;
       atoms = refl;
     }

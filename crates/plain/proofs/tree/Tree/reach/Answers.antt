@@ -6,8 +6,8 @@ use Rattle.plain.proofs.Trees.{front_same}
 use Rattle.plain.proofs.Growth.{not_firm, stops_out, taken_out}
 use Rattle.plain.proofs.tree.Tree.reach.Goals as goal
 
-pub returns-in-default : goal.returns-in-default
-returns-in-default c = record {
+pub returns-in_default : goal.returns-in_default
+returns-in_default c = record {
   bounds = (refl, refl);
   cases = (
     c.requires,
@@ -17,14 +17,14 @@ returns-in-default c = record {
   );
 }
 
-pub returns-in-err-remember : goal.returns-in-err-remember
-returns-in-err-remember c =
-    let p = err_from_is_err_and c.from-residual.result c.from-residual.ensures.1 in
+pub returns-in_err-remember : goal.returns-in_err-remember
+returns-in_err-remember c =
+    let p = err_from_is_err_and c.from_residual.result c.from_residual.ensures.1 in
     record {
       bounds = c.remember.ensures.bounds;
       cases = rw (p.1, p.2) (stops_out (task_of c.args.problem.now) c.args.self.now c.args.from c.index-before.result.now
           c.requires c.index-before.ensures c.args.step c.in-Some.state c.in-Some.ensures c.if-before-self.false _
-          c.in-err-remember.ensures.rows);
+          c.in_err-remember.ensures.rows);
     }
 
 pub returns : goal.returns
@@ -32,5 +32,5 @@ returns c = record {
   bounds = c.remember.ensures.bounds;
   cases = taken_out (task_of c.args.problem.now) c.args.self.now c.args.from c.index-before.result.now c.requires c.index-before.ensures
       c.args.step c.in-Some.state c.in-Some.ensures c.if-before-self.false c.remember.new.self c.remember.ensures.bounds
-      c.in-ok-remember.ensures.rows;
+      c.in_ok-remember.ensures.rows;
 }

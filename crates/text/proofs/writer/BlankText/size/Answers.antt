@@ -14,7 +14,7 @@ returns c =
       place = refl;
       range = c.in_default.ensures;
       naming = tt;
-      room = c.if-not-has-room.ensures.0 refl;
+      room = c.if-not-has_room.ensures.0 refl;
       next = refl;
       bytes =
           ap (λ (l : List ℕ). set (set l (i + 1) c.args.atoms) (i + 2) c.args.hands) (put_one xs i 1 (omega arith))

@@ -8,7 +8,7 @@ use Rattle.text.proofs.writer.StartedText.end.Goals as goal
 
 pub returns : goal.returns
 returns c =
-    let r = c.if-not-has-room.ensures.0 refl in
+    let r = c.if-not-has_room.ensures.0 refl in
     let w : Wrote (started_mark c.args.self) _ end_is c.args.out.now _ = record {
       place = end_after c.args.self.actions;
       range = tt;
