@@ -2,7 +2,7 @@
 use Rattle.std.proofs.Common.{◌≡◌, ℕ, zero, suc, ◌+◌, ◌-◌, ◌*◌, ◌/◌, ◌%◌, ◌^◌, ◌<◌, ◌≤◌, ◌⊎◌, List, [], ◌∷◌, map, length, sym, refl, ap, ◌∙◌, subst, inl, inr, ⊎_elim, pow-suc, arith}
 use native.Mathlib.Decide.{ℕ_discrete}
 use lib.ListN.{length-map}
-use Rattle.sets.specs.Sets.{Has, Apart}
+use Rattle.sets.specs.Sets.{Apart}
 use Rattle.sets.proofs.Bits.{bit_zero, bit_suc}
 use Rattle.sets.proofs.Members.{within_below}
 use Rattle.store.specs.Lists.{Among, Different}

@@ -1,7 +1,6 @@
 -- What was kept since a clear.
-use Rattle.std.proofs.Common.{◌≡◌, ℕ, suc, ◌+◌, ◌*◌, ◌^◌, ◌≤◌, ◌⊎◌, List, [], ◌∷◌, length, Ok, Err, Result, sym, refl, ap, ◌∙◌, subst, inl, inr, ⊎_elim, arith}
+use Rattle.std.proofs.Common.{◌≡◌, ℕ, List, [], ◌∷◌, Ok, Err, Result, sym, refl, ◌∙◌, subst, inl, inr, ⊎_elim, arith}
 use Rattle.problem.specs.declared.refusal.Refusal.{Refusal}
-use Rattle.store.specs.Lists.{Among}
 use Rattle.store.specs.Positions.{Target, Covers}
 use Rattle.store.specs.Stores.{Meaning, Covered, Blank, Told, Telling}
 use Rattle.store.specs.Histories.{Said, SinceClear, kept_with, kept_of, Keeps, KeptSinceClear, FewSinceClear}

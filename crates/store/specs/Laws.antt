@@ -1,5 +1,5 @@
 -- That the two stores are lawful.
-use Rattle.std.specs.Prelude.{◌≡◌, ℕ, Bool, true, false, T, List, [], length, Decides, ◌==◌, bit_and, refl}
+use Rattle.std.specs.Prelude.{◌≡◌, ℕ, Bool, true, false, T, List, length, Decides, ◌==◌, bit_and, refl}
 use Rattle.std.proofs.Common.{arith}
 use Rattle.std.proofs.lemmas.List.{length-take}
 use Rattle.std.proofs.lemmas.Bool.{leb-true, le-leb, false≢true}

@@ -1,5 +1,5 @@
 -- Positions: a goal at a level.
-use Rattle.std.specs.Prelude.{◌≡◌, ℕ, ◌≤◌}
+use Rattle.std.specs.Prelude.{ℕ, ◌≤◌}
 use Rattle.sets.specs.Sets.{Inside, Apart, Within}
 use Rattle.problem.specs.Runs.{Goal}
 use Rattle.store.specs.declared.position.Position.{Position}

@@ -4,6 +4,6 @@ use Rattle.store.proofs.standing.examples_stand.Goals as goal
 
 pub returns : goal.returns
 returns c = record {
-  covers = record { level = lit≤ tt; goal = and_inside 2 6 refl; avoid = and_inside 0 1 refl };
+  covers = record { level = lit≤ tt; need = and_inside 2 6 refl; avoid = and_inside 0 1 refl };
   higher = λ h. omega (arith, h.level);
 }
