@@ -3,7 +3,7 @@ use Rattle.std.proofs.Common.{◌≡◌, ℕ, ◌<◌, List, [], ◌∷◌, ◌+
 use Rattle.std.proofs.lemmas.List.{length_push}
 use Rattle.problem.specs.Firm.{Task, FirmStep}
 use Rattle.problem.specs.Runs.{Leads}
-use Rattle.plain.specs.Trees.{entry, Branch, LeadTo}
+use Rattle.plain.specs.Trees.{Branch, LeadTo}
 use Rattle.plain.specs.declared.reached.Reached.{Reached}
 use Rattle.plain.proofs.Trees.{entry_read}
 

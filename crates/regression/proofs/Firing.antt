@@ -1,5 +1,5 @@
 -- What effects do in the states between two masks, and what is open of their conditions.
-use Rattle.std.proofs.Common.{◌≡◌, ℕ, Bool, true, false, cond, T, eqb, ◌⊎◌, List, sym, refl, ◌∙◌, subst, inl, inr, eqb→eq}
+use Rattle.std.proofs.Common.{◌≡◌, ℕ, Bool, true, false, cond, T, eqb, ◌⊎◌, List, sym, refl, subst, inl, inr, eqb→eq}
 use lib.Bits.{bit_and, bit_or}
 use Rattle.std.proofs.lemmas.Bool.{ne_eqb}
 use Rattle.sets.specs.Sets.{Has, Inside, minus}

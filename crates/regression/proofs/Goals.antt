@@ -1,5 +1,5 @@
 -- Verdicts on what a step does to the atoms of a goal.
-use Rattle.std.proofs.Common.{◌≡◌, ℕ, ◌^◌, ◌<◌, ◌⊎◌, sym, ◌∙◌, ap₂, inl, inr}
+use Rattle.std.proofs.Common.{◌≡◌, ℕ, ◌⊎◌, sym, ◌∙◌, ap₂, inl, inr}
 use lib.Bits.{bit_and}
 use Rattle.sets.specs.Sets.{Has, Inside, minus}
 use Rattle.sets.proofs.Bits.{has?}

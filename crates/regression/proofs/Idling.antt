@@ -1,15 +1,15 @@
 -- What an action is for, by masks.
-use Rattle.std.proofs.Common.{◌≡◌, ℕ, ◌-◌, ◌^◌, ◌<◌, Bool, true, false, eqb, ◌⊎◌, Decides, sym, refl, subst, inl, inr}
+use Rattle.std.proofs.Common.{◌≡◌, ℕ, ◌-◌, ◌^◌, ◌<◌, eqb, Decides, sym, subst, inl, inr}
 use lib.Bits.{bit_and, bit_or}
 use lib.Count.{count_trailing_zeros}
-use Rattle.std.proofs.lemmas.Bool.{eqb-true, eq-eqb, false≢true}
+use Rattle.std.proofs.lemmas.Bool.{eqb-true, eq-eqb}
 use Rattle.sets.specs.Sets.{Has, Inside, minus}
 use Rattle.sets.proofs.Bits.{has?}
 use Rattle.sets.proofs.Members.{not_in_none}
 use Rattle.problem.specs.Actions.{Action, cuts}
 use Rattle.problem.specs.Runs.{Goal}
 use Rattle.regression.specs.Spans.{sure_gives, may_give, Union, Idle, SomeIdle}
-use Rattle.regression.proofs.Masks.{or_left, or_right, or_either, or_none, and_both, and_left, and_right, minus_has, minus_from, minus_not, none_in, so}
+use Rattle.regression.proofs.Masks.{or_either, or_none, and_both, and_left, and_right, minus_has, minus_from, minus_not, none_in, so}
 use Rattle.regression.proofs.Unions.{none_done, done_either, all_done}
 
 module _ (at : ℕ → Action) (lo hi i others : ℕ) (q : Goal) (sg sc given deleted : ℕ)

@@ -1,5 +1,5 @@
 -- Verdicts put together, and a verdict that asks.
-use Rattle.std.proofs.Common.{◌≡◌, ℕ, sym, subst}
+use Rattle.std.proofs.Common.{◌≡◌, ℕ, subst}
 use Rattle.sets.specs.Sets.{Has}
 use Rattle.regression.specs.Spans.{Between}
 use Rattle.regression.specs.Verdicts.{Judged, both_of, Asks}

@@ -1,11 +1,11 @@
 -- Only the first 64 atoms of a state count: the problem names no others.
-use Rattle.std.proofs.Common.{◌≡◌, ℕ, ◌+◌, ◌-◌, ◌^◌, ◌<◌, ◌≤◌, ◌⊎◌, List, length, take, drop, sym, refl, ap, ◌∙◌, subst, ap₂, inl, inr, arith, length-drop, length-take}
+use Rattle.std.proofs.Common.{◌≡◌, ℕ, ◌+◌, ◌-◌, ◌^◌, ◌<◌, List, length, take, drop, sym, ap, ◌∙◌, subst, ap₂, inl, inr, arith, length-drop, length-take}
 use native.Mathlib.Decide.{dec_le}
 use lib.Bits.{bit_and, bit_or, and_le_r}
 use Rattle.std.proofs.lemmas.List.{get_or-take, get_or-drop}
-use Rattle.sets.specs.Sets.{Has, Inside, Apart, Within, minus}
+use Rattle.sets.specs.Sets.{Has, Inside, Within, minus}
 use Rattle.sets.proofs.Members.{all_marks, not_in_none}
-use Rattle.problem.specs.Actions.{Action, Among, adds, deletes, gather, cuts, gives, FireAlike}
+use Rattle.problem.specs.Actions.{Action, Among, cuts, gives, FireAlike}
 use Rattle.problem.specs.Rows.{effect_at, begins, names_of}
 use Rattle.problem.specs.Problems.{task_of}
 use Rattle.problem.specs.Runs.{Goal}
@@ -13,8 +13,8 @@ use Rattle.problem.specs.declared.rows.EffectRow.{EffectRow}
 use Rattle.problem.specs.declared.problem.Problem.{Problem}
 use Rattle.problem.proofs.Effects.{gather_alike, alike_all, same_tests, fires_inside, inside_fires}
 use Rattle.problem.proofs.Placing.{row_past}
-use Rattle.regression.specs.Spans.{Reached, Unhurt, Helped, Rest, Fine, Sure, Idle, SomeIdle, reads}
-use Rattle.regression.proofs.Masks.{or_left, and_both, and_left, and_right}
+use Rattle.regression.specs.Spans.{Reached, Helped, Fine, Sure, Idle, SomeIdle, reads}
+use Rattle.regression.proofs.Masks.{or_left, and_both, and_left}
 use Rattle.regression.proofs.Along.{at_among}
 
 -- the actions name only the first 64 atoms

@@ -1,10 +1,10 @@
 -- Unions, parts and differences by their members.
-use Rattle.std.proofs.Common.{◌≡◌, ℕ, zero, suc, ◌-◌, ◌%◌, ◌^◌, ◌<◌, ◌≤◌, ◌≢◌, ◌⊎◌, sym, refl, ap, ◌∙◌, subst, inl, inr, arith}
+use Rattle.std.proofs.Common.{◌≡◌, ℕ, zero, suc, ◌%◌, ◌^◌, ◌<◌, ◌≤◌, ◌⊎◌, refl, ap, ◌∙◌, subst, inl, inr, arith}
 use native.Mathlib.Decide.{ℕ_discrete}
 use lib.Bits.{bit_and, bit_or}
 use lib.Arith.{bin_ind}
 use lib.Count.{ones}
-use Rattle.sets.specs.Sets.{bit, Has, Inside, Apart, minus}
+use Rattle.sets.specs.Sets.{bit, Has, Inside, minus}
 use Rattle.sets.proofs.Bits.{bit_digit, bit_zero, bit_suc, bit_of_or, bit_of_and, bit_none, bit_minus, same_bits, same_members, has?}
 use Rattle.sets.proofs.Members.{bit_other, not_in_none, has_lt, ones_minus, ones_mono}
 use Rattle.problem.proofs.Listed.{left_has}

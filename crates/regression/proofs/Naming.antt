@@ -1,5 +1,5 @@
 -- What an action gives, deletes and must find, it names.
-use Rattle.std.proofs.Common.{ℕ, ◌⊎◌, inl, inr}
+use Rattle.std.proofs.Common.{ℕ, inl, inr}
 use Rattle.sets.specs.Sets.{Has}
 use Rattle.problem.specs.Actions.{Action, Among, adds, cuts}
 use Rattle.problem.specs.declared.rows.EffectRow.{EffectRow}

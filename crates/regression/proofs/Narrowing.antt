@@ -1,6 +1,6 @@
 -- What is sure between two masks stays sure as the masks draw together.
-use Rattle.std.proofs.Common.{ℕ, ◌⊎◌, inl, inr}
-use Rattle.sets.specs.Sets.{Has, Inside}
+use Rattle.std.proofs.Common.{ℕ, inl, inr}
+use Rattle.sets.specs.Sets.{Inside}
 use Rattle.problem.specs.Actions.{Action}
 use Rattle.problem.specs.Runs.{Goal}
 use Rattle.regression.specs.Spans.{Reached, Unhurt, Helped, Rest, Fine, Sure, Idle, SomeIdle}

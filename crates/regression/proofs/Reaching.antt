@@ -1,13 +1,12 @@
 -- A step leads into a goal exactly where each of its actions is fine and together they reach it.
-use Rattle.std.proofs.Common.{◌≡◌, ℕ, ◌-◌, ◌/◌, ◌^◌, ◌<◌, ◌≤◌, ◌≢◌, ◌⊎◌, length, sym, refl, ◌∙◌, subst, subst₂, inl, inr, arith}
+use Rattle.std.proofs.Common.{◌≡◌, ℕ, ◌-◌, ◌^◌, ◌<◌, ◌≤◌, ◌≢◌, ◌⊎◌, sym, refl, ◌∙◌, subst, subst₂, inl, inr, arith}
 use native.Mathlib.Decide.{ℕ_discrete}
-use lib.Count.{ones}
-use Rattle.sets.specs.Sets.{Has, Inside, Apart, Within, minus}
+use Rattle.sets.specs.Sets.{Has, Inside, Apart, minus}
 use Rattle.sets.proofs.Bits.{has?, bit_digit, bit_minus, same_bits, and_inside, and_not}
-use Rattle.sets.proofs.Members.{has_lt, ones_minus, minus_lt, within_below, below_within}
+use Rattle.sets.proofs.Members.{has_lt, ones_minus, within_below, below_within}
 use Rattle.problem.specs.Actions.{Action, cuts, gives}
 use Rattle.problem.specs.Calm.{Calm, Ends}
-use Rattle.problem.specs.Firm.{Task, Step, FirmStep}
+use Rattle.problem.specs.Firm.{Task, Step}
 use Rattle.problem.specs.Runs.{Goal, Meets}
 use Rattle.problem.specs.Problems.{task_of}
 use Rattle.problem.specs.declared.problem.Problem.{Problem}
@@ -26,7 +25,7 @@ use Rattle.regression.specs.declared.verdict.Verdict.TheVariants.{Yes, No, Ask}
 use Rattle.regression.proofs.Masks.{or_left, or_right, or_either, and_both, minus_not, some_member, so}
 use Rattle.regression.proofs.Judging.{judged_both, judged_named, judged_is}
 use Rattle.regression.proofs.Narrowing.{sure_narrow, some_idle_narrow}
-use Rattle.regression.proofs.Local.{Narrow, low, low_lt, low_alike, sure_alike, some_idle_alike, problem_narrow}
+use Rattle.regression.proofs.Local.{low, low_lt, low_alike, sure_alike, some_idle_alike, problem_narrow}
 
 -- ---- in one state
 

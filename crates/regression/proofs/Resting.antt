@@ -1,5 +1,5 @@
 -- Verdicts on effects that must not come to fire, and on preconditions.
-use Rattle.std.proofs.Common.{◌≡◌, ℕ, ◌+◌, ◌<◌, Bool, true, false, cond, T, eqb, ◌⊎◌, List, length, sym, refl, ◌∙◌, subst, inl, inr, eqb→eq}
+use Rattle.std.proofs.Common.{◌≡◌, ℕ, ◌+◌, ◌<◌, Bool, true, false, cond, T, eqb, ◌⊎◌, List, length, sym, refl, subst, inl, inr, eqb→eq}
 use lib.Bits.{bit_and}
 use Rattle.sets.specs.Sets.{Has, Inside, Apart, minus}
 use Rattle.sets.proofs.Bits.{has?, inside_and, and_inside, apart_and, and_apart}

@@ -1,5 +1,5 @@
 -- One atom less to avoid.
-use Rattle.std.proofs.Common.{◌≡◌, ℕ, ◌-◌, ◌^◌, ◌<◌, ◌≢◌, ◌⊎◌, sym, refl, subst, inl, inr, arith}
+use Rattle.std.proofs.Common.{◌≡◌, ℕ, ◌-◌, ◌^◌, ◌<◌, ◌≢◌, sym, refl, subst, inl, inr, arith}
 use native.Mathlib.Decide.{dec_le}
 use lib.Bits.{bit_and}
 use lib.Count.{count_trailing_zeros}

@@ -1,5 +1,5 @@
 -- A node that is split loses no pair.
-use Rattle.std.proofs.Common.{◌≡◌, ℕ, suc, ◌+◌, ◌-◌, ◌^◌, ◌<◌, ◌≤◌, ◌≢◌, ◌⊎◌, sym, refl, ap, ◌∙◌, subst, inl, inr, arith}
+use Rattle.std.proofs.Common.{◌≡◌, ℕ, ◌-◌, ◌^◌, ◌<◌, ◌≤◌, ◌⊎◌, sym, refl, ap, subst, inl, inr, arith}
 use native.Mathlib.Decide.{ℕ_discrete}
 use lib.Bits.{bit_and, bit_or}
 use lib.Count.{ones}
@@ -18,7 +18,7 @@ use Rattle.regression.specs.Spans.{Between, UnhurtBy}
 use Rattle.regression.specs.Matters.{GoalNames, ActionNames, Matters}
 use Rattle.regression.specs.Reaching.{Reaches, Lean, Judges}
 use Rattle.regression.specs.declared.verdict.Verdict.TheVariants.{No}
-use Rattle.regression.specs.Nodes.{Pair, Lies, undecided, Named, Splits, Settles, Expanded, WithAction, Hopeless, closed}
+use Rattle.regression.specs.Nodes.{Pair, Lies, Named, Splits, Expanded, WithAction, Hopeless, closed}
 use Rattle.regression.specs.declared.region.Region.{Region}
 use Rattle.regression.specs.declared.node.Node.{Node}
 use Rattle.regression.specs.declared.node.Next.{Next}

@@ -1,5 +1,5 @@
 -- One node after the other: what is kept of the work.
-use Rattle.std.proofs.Common.{◌≡◌, ℕ, zero, suc, ◌+◌, ◌-◌, ◌^◌, ◌<◌, ◌≤◌, ◌≢◌, ◌⊎◌, List, [], ◌∷◌, length, take, set, sym, refl, ap, ◌∙◌, subst, ap₂, inl, inr, pow-suc, arith, length-set, get_or-set_other, get_or-set_same, pow_pos, pow_mono}
+use Rattle.std.proofs.Common.{◌≡◌, ℕ, zero, suc, ◌+◌, ◌-◌, ◌^◌, ◌<◌, ◌≤◌, ◌≢◌, List, [], ◌∷◌, length, take, set, sym, refl, ap, ◌∙◌, subst, ap₂, inl, inr, pow-suc, arith, length-set, get_or-set_other, get_or-set_same, pow_pos, pow_mono}
 use lib.Bits.{bit_or}
 use lib.Count.{ones-le}
 use Rattle.std.proofs.lemmas.List.{get_or-take}

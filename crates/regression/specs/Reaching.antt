@@ -1,5 +1,5 @@
 -- Steps that lead into a goal, and the goals that they make due below it.
-use Rattle.std.specs.Prelude.{◌≡◌, ℕ, ◌<◌, ◌⊎◌, ◌≢◌}
+use Rattle.std.specs.Prelude.{ℕ, ◌<◌, ◌⊎◌, ◌≢◌}
 use Rattle.sets.specs.Sets.{Has, Inside, Apart}
 use Rattle.problem.specs.Firm.{Task, FirmStep}
 use Rattle.problem.specs.Runs.{Goal, Meets}

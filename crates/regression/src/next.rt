@@ -15,7 +15,7 @@ pub const ROOM: usize = 129;
 
 // What becomes of a node that may be dismissed.
 fn treat<D: Dismissal>(problem: &Problem, aim: Region, dismissal: &D, node: Node) -> Next
-    ensures { Treated (task_of problem.now) (region_goal aim) (dismissed dismissal.now) node result }
+    ensures { Treated (task_of problem.now) (region_goal aim) (D.dismissed dismissal.now) node result }
 {
     if dismissal.dismisses(node.region) {
         return Next::Drop;
@@ -31,7 +31,7 @@ pub fn next_due<D: Dismissal>(
     nodes: &mut [Node],
     part: Part,
 ) -> Found
-    ensures finds { Finds (task_of problem.now) (region_goal aim) (dismissed dismissal.now)
+    ensures finds { Finds (task_of problem.now) (region_goal aim) (D.dismissed dismissal.now)
         (part_of nodes.old part.start part.count) nodes.new part.start result }
     ensures below { take part.start nodes.new ≡ take part.start nodes.old }
 {

@@ -1,14 +1,14 @@
 -- The second pass over a text that is known to hold a whole problem.
-use Rattle.std.proofs.Common.{◌≡◌, ℕ, zero, suc, ◌+◌, ◌-◌, ◌*◌, ◌<◌, ◌≤◌, Bool, cond, ltb, ◌⊎◌, List, [], ◌∷◌, ◌++◌, length, get_or, sym, refl, ap, ◌∙◌, subst, inl, inr, add-one, arith}
+use Rattle.std.proofs.Common.{◌≡◌, ℕ, zero, suc, ◌+◌, ◌-◌, ◌*◌, ◌<◌, ◌≤◌, Bool, cond, ltb, ◌⊎◌, List, [], ◌∷◌, ◌++◌, length, sym, refl, ap, ◌∙◌, subst, inl, inr, add-one, arith}
 use native.Mathlib.Decide.{dec_le}
 use Rattle.std.proofs.lemmas.List.{length_push}
 use Rattle.problem.specs.Rows.{begins}
 use Rattle.problem.specs.declared.rows.ActionRow.{ActionRow}
 use Rattle.problem.specs.declared.rows.EffectRow.{EffectRow}
-use Rattle.text.specs.Texts.{Item, size_is, first_is, action_is, effect_is, end_is, item_kind, item_text, Contents, contents, Valid}
-use Rattle.text.specs.Readings.{InPlace, Draft, draft, more, latest, Reading, Allowed, Outcome, whole, faulty, Reads, ends, goes}
+use Rattle.text.specs.Texts.{Item, action_is, effect_is, end_is, item_kind, item_text, Contents, contents, Valid}
+use Rattle.text.specs.Readings.{InPlace, Draft, draft, more, latest, Reading, Allowed, whole, Reads, ends, goes}
 use Rattle.text.specs.declared.place.Place.{Place}
-use Rattle.text.specs.declared.place.Place.TheVariants.{Start, Sized, Started, Acted}
+use Rattle.text.specs.declared.place.Place.TheVariants.{Acted}
 use Rattle.sets.specs.Lists.{count_of, room_of, taken}
 use Rattle.sets.specs.declared.filled.Filled.{Filled}
 use Rattle.text.specs.Filling.{Refilled}

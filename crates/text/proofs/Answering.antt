@@ -1,5 +1,5 @@
 -- From the reading of a text to what a call of read answers.
-use Rattle.std.proofs.Common.{◌≡◌, ℕ, ◌≤◌, ◌⊎◌, List, [], Ok, Err, Result, sym, refl, ap, ◌∙◌, subst, inl, inr, arith}
+use Rattle.std.proofs.Common.{◌≡◌, ℕ, List, Ok, Err, Result, sym, refl, ap, subst, arith}
 use Rattle.sets.specs.Lists.{taken}
 use Rattle.sets.specs.declared.filled.Filled.{Filled}
 use Rattle.problem.specs.declared.rows.ActionRow.{ActionRow}
@@ -7,7 +7,7 @@ use Rattle.problem.specs.declared.rows.EffectRow.{EffectRow}
 use Rattle.text.specs.Texts.{Contents, contents, Valid, Begins}
 use Rattle.text.specs.Readings.{nothing, Outcome, whole, faulty, Reads}
 use Rattle.text.specs.Filling.{Refilled}
-use Rattle.text.specs.Calls.{Roomy, gotten, Took, Left, told, Gives}
+use Rattle.text.specs.Calls.{Roomy, gotten, Took, told, Gives}
 use Rattle.text.specs.declared.fault.ProblemFault.{ProblemFault}
 use Rattle.text.specs.declared.checker.Taken.{Taken}
 use Rattle.text.proofs.Outcomes.{reads_once}

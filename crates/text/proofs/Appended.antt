@@ -1,13 +1,13 @@
 -- Texts written further, step by step.
-use Rattle.std.proofs.Common.{◌≡◌, ℕ, ◌+◌, ◌-◌, ◌<◌, ◌≤◌, List, [], ◌∷◌, ◌++◌, length, get_or, take, drop, sym, refl, ap, ◌∙◌, subst, add-zero, arith}
-use Rattle.std.proofs.lemmas.List.{length-append, append_assoc, append-nil, take-append-drop, take_more, flat_map_more, get_or_default, get_or-take, get_or-drop, length-take, length-drop}
-use Rattle.problem.specs.Rows.{effect_at, begins, names_of, EffectsNamed}
+use Rattle.std.proofs.Common.{◌≡◌, ℕ, ◌+◌, ◌-◌, ◌<◌, ◌≤◌, List, [], ◌++◌, length, get_or, take, drop, sym, refl, ap, ◌∙◌, subst, add-zero, arith}
+use Rattle.std.proofs.lemmas.List.{length-append, append_assoc, take-append-drop, take_more, flat_map_more, get_or-take, get_or-drop, length-take, length-drop}
+use Rattle.problem.specs.Rows.{begins, names_of, EffectsNamed}
 use Rattle.problem.specs.declared.rows.ActionRow.{ActionRow}
 use Rattle.problem.specs.Problems.{action_at}
 use Rattle.problem.specs.declared.rows.EffectRow.{EffectRow}
 use Rattle.sets.specs.Sets.{Within}
 use Rattle.text.specs.Bytes.{put}
-use Rattle.text.specs.Texts.{Item, size_is, first_is, action_is, effect_is, end_is, item_text, Contents, actions_text, open_text, problem_text}
+use Rattle.text.specs.Texts.{size_is, first_is, action_is, effect_is, end_is, item_text, Contents, actions_text, open_text, problem_text}
 use Rattle.text.specs.Writings.{Mark, started_mark, Wrote}
 use Rattle.text.specs.Appending.{effects_text, Appends}
 use Rattle.text.specs.declared.writer.StartedText.{StartedText}

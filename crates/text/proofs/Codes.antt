@@ -1,7 +1,7 @@
 -- What the record layer answers, as a reading sees it.
-use Rattle.std.proofs.Common.{◌≡◌, ℕ, ◌+◌, ◌<◌, ◌≤◌, ◌⊎◌, List, ◌∷◌, length, get_or, Ok, Err, sym, refl, ap, ◌∙◌, subst, inl, inr, arith}
-use Rattle.text.specs.Records.{Known, code_of, kind_of, body_of, body_length, KindAt, RecordAt, Stands}
-use Rattle.text.specs.Readings.{InPlace, Draft, Reads, faulty, missing, strange, misplaced, torn}
+use Rattle.std.proofs.Common.{◌≡◌, ℕ, ◌<◌, List, length, get_or, Err, sym, subst, inl, inr, arith}
+use Rattle.text.specs.Records.{Known, code_of, KindAt, RecordAt}
+use Rattle.text.specs.Readings.{InPlace, Draft, Reads, faulty, strange, torn}
 use Rattle.text.specs.declared.fault.RecordFault.{RecordFault}
 use Rattle.text.specs.declared.fault.RecordFault.TheVariants.{Cut, Unknown}
 use Rattle.text.specs.declared.fault.ProblemFault.TheVariants.{Record as InRecord}

@@ -1,12 +1,12 @@
 -- A record that was found, as a record of a problem.
-use Rattle.std.proofs.Common.{◌≡◌, ℕ, ◌+◌, ◌<◌, ◌≤◌, ◌⊎◌, List, ◌∷◌, length, get_or, Ok, Err, Result, sym, refl, ap, ◌∙◌, subst, inl, inr, arith, w8, Fits, Bor}
+use Rattle.std.proofs.Common.{◌≡◌, ℕ, ◌+◌, ◌<◌, ◌≤◌, List, ◌∷◌, length, get_or, Ok, Err, Result, sym, refl, ap, subst, inl, inr, arith, w8, Fits, Bor}
 use Rattle.std.specs.Int.Digits.{AllBelowBase}
 use Rattle.std.proofs.ByRecursion.{All-from_get_or}
 use Rattle.text.specs.Records.{kind_of, body_of, body_length, Stands, RecordAt}
 use Rattle.problem.specs.declared.rows.EffectRow.{EffectRow}
 use Rattle.text.specs.Bytes.{set_in}
 use Rattle.text.specs.Texts.{Item, action_is, effect_is, item_kind, item_body, item_text, effect_in}
-use Rattle.text.specs.Readings.{InPlace, InRange, Naming, Draft, more, latest, Reading, Allowed, Outcome, faulty, Reads, outside, unnamed, goes}
+use Rattle.text.specs.Readings.{InPlace, Draft, more, latest, Reading, Allowed, Outcome, faulty, Reads, outside, unnamed, goes}
 use Rattle.text.specs.Misfits.{Misses, fault_of}
 use Rattle.text.specs.declared.record.Record.{Record}
 use Rattle.text.specs.declared.record.Record.TheVariants.{Size, First, Action, Effect, End, Question}

@@ -1,19 +1,19 @@
 -- What holds of a draft that came about by allowed records.
-use Rattle.std.proofs.Common.{◌≡◌, ℕ, zero, suc, ◌+◌, ◌-◌, ◌<◌, ◌≤◌, ◌⊎◌, List, [], ◌∷◌, ◌++◌, length, get_or, take, drop, sym, refl, ap, ◌∙◌, subst, inl, inr, arith}
+use Rattle.std.proofs.Common.{◌≡◌, ℕ, zero, suc, ◌+◌, ◌-◌, ◌<◌, ◌≤◌, List, [], ◌∷◌, ◌++◌, length, drop, sym, refl, ap, ◌∙◌, subst, inl, inr, arith}
 use native.Mathlib.Decide.{dec_le}
 use Rattle.std.proofs.lemmas.List.{length_push, length-drop, get_or_append_left, get_or_push, append_assoc, append-nil}
 use Rattle.sets.specs.Sets.{Within}
-use Rattle.problem.specs.Rows.{row_at, effect_at, begins, names_of, Placed, Sized as InSize, Named, PreconditionsNamed, EffectsNamed}
+use Rattle.problem.specs.Rows.{begins, names_of, Placed}
 use Rattle.problem.specs.Actions.{Action}
 use Rattle.problem.specs.Problems.{action_at}
 use Rattle.problem.specs.declared.rows.ActionRow.{ActionRow}
 use Rattle.problem.specs.declared.rows.EffectRow.{EffectRow}
 use Rattle.problem.proofs.Placing.{begins_past, begins_up, begins_le}
 use Rattle.text.specs.Texts.{Item, size_is, first_is, action_is, effect_is, end_is, item_kind, item_text, Contents, Valid, open_text, actions_text}
-use Rattle.text.specs.Readings.{InPlace, place_after, Draft, nothing, more, latest, part_text, draft_text, Allowed, Drafted, none, then}
+use Rattle.text.specs.Readings.{InPlace, place_after, Draft, more, latest, part_text, draft_text, Allowed, Drafted, none, then}
 use Rattle.text.specs.declared.place.Place.{Place}
 use Rattle.text.specs.declared.place.Place.TheVariants.{Start, Sized, Started, Acted}
-use Rattle.text.proofs.Growing.{begins_action, begins_effect, begins_end, action_new, latest_all, effect_new, text_action, text_effect}
+use Rattle.text.proofs.Growing.{begins_action, begins_effect, action_new, latest_all, effect_new, text_action, text_effect}
 
 -- what each place says of the numbers and rows
 abbrev pub SoundAt : Place → Contents → Type 0

@@ -1,8 +1,8 @@
 -- A whole problem is read exactly from its text.
-use Rattle.std.proofs.Common.{◌≡◌, ℕ, zero, suc, ◌+◌, ◌-◌, ◌^◌, ◌<◌, ◌≤◌, ◌⊎◌, List, [], ◌∷◌, ◌++◌, length, get_or, take, drop, sym, refl, ap, ◌∙◌, subst, inl, inr, add-one, arith, pow_mono}
+use Rattle.std.proofs.Common.{◌≡◌, ℕ, zero, suc, ◌+◌, ◌-◌, ◌^◌, ◌<◌, ◌≤◌, List, [], ◌∷◌, ◌++◌, length, take, sym, refl, ap, ◌∙◌, subst, add-one, arith, pow_mono}
 use lib.Bits.{bit_or}
-use Rattle.std.proofs.lemmas.List.{length-append, length-take-le, take_all, take_more, get_or-take, append_assoc, append-nil}
-use Rattle.sets.specs.Sets.{Has, Within}
+use Rattle.std.proofs.lemmas.List.{length-append, length-take-le, take_all, take_more, get_or-take}
+use Rattle.sets.specs.Sets.{Within}
 use Rattle.sets.proofs.Bits.{bit_of_or, bit_digit}
 use Rattle.sets.proofs.Members.{within_below}
 use Rattle.problem.specs.Rows.{row_at, effect_at, begins, names_of}
@@ -11,12 +11,12 @@ use Rattle.problem.specs.declared.rows.EffectRow.{EffectRow}
 use Rattle.problem.proofs.Placing.{begins_past, begins_up, begins_le}
 use Rattle.text.specs.Bytes.{Stand}
 use Rattle.text.specs.Texts.{Item, size_is, first_is, action_is, effect_is, end_is, item_kind, item_text, Fitting, Contents, Valid, open_text, problem_text, Begins}
-use Rattle.text.specs.Readings.{InPlace, Draft, nothing, more, latest, place_after, part_text, draft_text, Reading, Allowed, Outcome, whole, faulty, Reads, missing, strange, misplaced, torn, outside, unnamed, ends, goes}
+use Rattle.text.specs.Readings.{Draft, nothing, more, latest, place_after, part_text, draft_text, Allowed, Outcome, whole, faulty, Reads, missing, strange, misplaced, torn, outside, unnamed, ends, goes}
 use Rattle.text.specs.declared.place.Place.{Place}
-use Rattle.text.specs.declared.place.Place.TheVariants.{Start, Sized, Started, Acted}
+use Rattle.text.specs.declared.place.Place.TheVariants.{Sized, Started, Acted}
 use Rattle.text.proofs.Standing.{stand_inside, take_stand, stand_front}
 use Rattle.text.proofs.Growing.{begins_in}
-use Rattle.text.proofs.Drafts.{Sound, SoundAt, more_sound, more_text, open_end, latest_is, action_after, end_after}
+use Rattle.text.proofs.Drafts.{Sound, more_sound, more_text, open_end, latest_is, action_after, end_after}
 
 module _ (text : List ℕ) where
   -- what is read is a problem, and the bytes that it took are its text

@@ -1,9 +1,9 @@
 -- Rows with one action, or one effect of the latest action, more.
-use Rattle.std.proofs.Common.{◌≡◌, ℕ, zero, suc, ◌+◌, ◌-◌, ◌<◌, ◌≤◌, List, [], ◌∷◌, ◌++◌, length, get_or, take, drop, sym, refl, ap, ◌∙◌, subst, add-one, arith}
+use Rattle.std.proofs.Common.{◌≡◌, ℕ, zero, suc, ◌+◌, ◌-◌, ◌<◌, ◌≤◌, List, [], ◌∷◌, ◌++◌, length, take, drop, sym, refl, ap, ◌∙◌, add-one, arith}
 use native.Mathlib.Decide.{dec_le}
 use Rattle.std.specs.List.{flat_map}
-use Rattle.std.proofs.lemmas.Bool.{lt-ltb, le-ltb}
-use Rattle.std.proofs.lemmas.List.{length_push, length-append, length-drop, get_or_append_left, get_or_push, take-append-le, drop-append-le, take_all, append_assoc, append-nil, flat_map_more}
+use Rattle.std.proofs.lemmas.Bool.{lt-ltb}
+use Rattle.std.proofs.lemmas.List.{length_push, length-drop, get_or_append_left, get_or_push, take-append-le, drop-append-le, take_all, append_assoc, append-nil, flat_map_more}
 use Rattle.problem.specs.Actions.{Action}
 use Rattle.problem.specs.Rows.{row_at, begins, Placed}
 use Rattle.problem.specs.Problems.{action_at}

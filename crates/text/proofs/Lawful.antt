@@ -3,7 +3,7 @@ use Rattle.std.proofs.Common.{◌≡◌, ℕ, ◌≤◌, List, ◌++◌, length,
 use Rattle.std.proofs.lemmas.List.{take_at, length-append, length-take-le}
 use Rattle.text.specs.Bytes.{put}
 use Rattle.text.specs.Texts.{Contents, Valid, problem_text, Begins}
-use Rattle.text.specs.Readings.{nothing, Outcome, whole, Reads}
+use Rattle.text.specs.Readings.{nothing, whole, Reads}
 use Rattle.text.specs.Laws.{OneOutcome, ReadExactly, ReadBack, OneProblem, OneMore}
 use Rattle.text.proofs.Puts.{length_put, take_put}
 use Rattle.text.proofs.Drafts.{drafted_sound, more_text}

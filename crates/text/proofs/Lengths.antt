@@ -1,13 +1,13 @@
 -- How long the text of a problem and its parts are.
-use Rattle.std.proofs.Common.{◌≡◌, ℕ, zero, suc, ◌+◌, ◌-◌, ◌*◌, ◌<◌, ◌≤◌, List, [], ◌∷◌, ◌++◌, length, take, drop, sym, refl, ap, ◌∙◌, subst, add-one, arith}
+use Rattle.std.proofs.Common.{◌≡◌, ℕ, zero, suc, ◌+◌, ◌-◌, ◌*◌, ◌<◌, ◌≤◌, List, [], ◌∷◌, ◌++◌, length, drop, sym, refl, ap, ◌∙◌, subst, add-one, arith}
 use Rattle.std.proofs.lemmas.List.{length-append, length-take-le, length-drop}
 use Rattle.problem.specs.Actions.{Action}
-use Rattle.problem.specs.Rows.{begins, row_at, Placed}
+use Rattle.problem.specs.Rows.{begins, Placed}
 use Rattle.problem.specs.Problems.{action_at}
 use Rattle.problem.specs.declared.rows.ActionRow.{ActionRow}
 use Rattle.problem.specs.declared.rows.EffectRow.{EffectRow}
 use Rattle.problem.proofs.Placing.{begins_past, begins_up, begins_le}
-use Rattle.text.specs.Texts.{size_is, first_is, action_is, effect_is, end_is, item_text, Contents, Valid, action_text, actions_text, open_text, problem_text}
+use Rattle.text.specs.Texts.{size_is, first_is, action_is, effect_is, end_is, item_text, Contents, action_text, actions_text, open_text, problem_text}
 use Rattle.text.specs.Appending.{effects_text}
 use Rattle.text.proofs.Numbers.{length_bytes_of}
 use Rattle.text.proofs.Items.{body_long}

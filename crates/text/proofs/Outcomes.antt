@@ -1,23 +1,19 @@
 -- Every text has one reading, and a whole problem is read exactly from its text.
-use Rattle.std.proofs.Common.{◌≡◌, ℕ, zero, suc, ◌+◌, ◌-◌, ◌^◌, ◌<◌, ◌≤◌, ◌⊎◌, List, [], ◌∷◌, ◌++◌, length, get_or, take, drop, sym, refl, ap, ◌∙◌, subst, inl, inr, arith}
+use Rattle.std.proofs.Common.{◌≡◌, ℕ, zero, suc, ◌+◌, ◌^◌, ◌<◌, ◌≤◌, ◌⊎◌, List, length, get_or, take, drop, sym, refl, ap, ◌∙◌, subst, inl, inr, arith}
 use native.Mathlib.Decide.{dec_le, ℕ_discrete}
 use Rattle.std.specs.Int.Digits.{AllBelowBase}
-use Rattle.std.proofs.lemmas.List.{length-append, length-take-le, take_all, take-append-drop, drop-drop, take-take, drop-take, append_assoc, take_at, drop_at}
 use Rattle.sets.specs.Sets.{Within}
 use Rattle.sets.proofs.Members.{below_within, within_below}
 use Rattle.problem.specs.Rows.{names_of}
-use Rattle.text.specs.Bytes.{Stand}
-use Rattle.text.specs.Records.{Known, Strange, Torn, body_length}
-use Rattle.text.specs.Texts.{Item, size_is, first_is, action_is, effect_is, end_is, item_kind, item_body, item_text, Contents, Valid, problem_text, open_text, Begins}
-use Rattle.text.specs.Readings.{InPlace, InRange, Naming, Draft, nothing, more, latest, draft_text, Reading, Allowed, Drafted, Outcome, whole, faulty, Reads, missing, strange, misplaced, torn, outside, unnamed, ends, goes}
+use Rattle.text.specs.Records.{Known, Strange, body_length}
+use Rattle.text.specs.Texts.{Item, size_is, first_is, action_is, effect_is, end_is, item_kind, item_body, item_text}
+use Rattle.text.specs.Readings.{InPlace, InRange, Naming, Draft, more, latest, Reading, Outcome, whole, faulty, Reads, missing, strange, misplaced, torn, outside, unnamed, ends, goes}
 use Rattle.text.specs.declared.fault.RecordFault.TheVariants.{Cut, Unknown}
-use Rattle.text.specs.declared.fault.ProblemFault.{ProblemFault}
 use Rattle.text.specs.declared.fault.ProblemFault.TheVariants.{Record as InRecord, NoEnd, Place as Misplaced, Range, Atom}
 use Rattle.text.specs.declared.place.Place.{Place}
 use Rattle.text.specs.declared.place.Place.TheVariants.{Start, Sized, Started, Acted}
-use Rattle.text.proofs.Standing.{record_stand, stand_inside, first_stands, body_stands}
-use Rattle.text.proofs.Items.{item_in, item_back, item_there, one_item, body_long, kind_low, kind_high, item_inside}
-use Rattle.text.proofs.Drafts.{Sound, more_sound, more_text, open_end}
+use Rattle.text.proofs.Standing.{record_stand, first_stands, body_stands}
+use Rattle.text.proofs.Items.{item_in, item_back, item_there, body_long, kind_low, kind_high, item_inside}
 
 -- tests
 place? : (p : Place) (k : ℕ) → Dec (InPlace p k)

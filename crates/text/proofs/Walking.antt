@@ -1,13 +1,13 @@
 -- The first pass over a text, which only counts.
-use Rattle.std.proofs.Common.{◌≡◌, ℕ, ◌+◌, ◌-◌, ◌<◌, ◌≤◌, ◌⊎◌, List, [], ◌∷◌, ◌++◌, length, sym, refl, ap, ◌∙◌, subst, inl, inr, arith}
+use Rattle.std.proofs.Common.{◌≡◌, ℕ, ◌+◌, ◌<◌, ◌≤◌, List, [], ◌∷◌, ◌++◌, length, sym, refl, subst, inl, inr, arith}
 use Rattle.std.proofs.lemmas.List.{length_push}
 use Rattle.problem.specs.Rows.{Placed}
 use Rattle.problem.specs.declared.rows.ActionRow.{ActionRow}
 use Rattle.problem.specs.declared.rows.EffectRow.{EffectRow}
-use Rattle.text.specs.Texts.{Item, action_is, effect_is, end_is, item_kind, item_text, Contents, contents}
-use Rattle.text.specs.Readings.{InPlace, InRange, Naming, Draft, draft, more, latest, Reading, Allowed, Outcome, whole, faulty, Reads, ends}
+use Rattle.text.specs.Texts.{Item, action_is, effect_is, end_is, item_kind, item_text, contents}
+use Rattle.text.specs.Readings.{InPlace, InRange, Naming, Draft, draft, latest, Reading, Outcome, whole, faulty, Reads, ends}
 use Rattle.text.specs.Counting.{counted}
-use Rattle.text.specs.declared.place.Place.TheVariants.{Start, Sized, Started, Acted}
+use Rattle.text.specs.declared.place.Place.TheVariants.{Started}
 use Rattle.text.specs.declared.checker.Tally.{Tally}
 use Rattle.text.proofs.Drafts.{row_for, placed_action, placed_effect, latest_action, latest_effect}
 use Rattle.text.specs.Misfits.{Misses, fault_of}
@@ -67,11 +67,11 @@ module _ (text : List ℕ) (m h s : ℕ) where
         rows = w.rows;
         effects = w.effects ++ (x ∷ []);
         actions = w.actions;
-        effects_of = omega (arith, w.effects-of, latest_effect c x w.placed (w.some i));
+        effects_of = omega (arith, w.effects_of, latest_effect c x w.placed (w.some i));
         placed = placed_effect c x w.placed (w.some i);
         rowed = λ k j. j.0;
         some = λ j. w.some i;
-        on = λ o rest. w.on o (goes_on text at n (come at t w) (effect_is x) r (λ (z : 4 ≡ 5). omega arith) (record { place = i; range = omega (arith, w.effects-of); naming = naming }) e o rest);
+        on = λ o rest. w.on o (goes_on text at n (come at t w) (effect_is x) r (λ (z : 4 ≡ 5). omega arith) (record { place = i; range = omega (arith, w.effects_of); naming = naming }) e o rest);
       }
 
   -- a record that does not fit ends it
@@ -80,7 +80,7 @@ module _ (text : List ℕ) (m h s : ℕ) where
   walk_misfit at t i w r p k e =
       w.on (faulty (fault_of k at)) (misfit_reads text at (come at t w) i r p k
       (subst (λ (a : ℕ). Misses a (latest (contents m h s w.rows w.effects)) m i k) w.actions
-      (subst (λ (a : ℕ). Misses t.actions a m i k) w.effects-of e)))
+      (subst (λ (a : ℕ). Misses t.actions a m i k) w.effects_of e)))
 
   -- and so does the end record
   pub walk_end : (at n : ℕ) (t : Tally) (w : Walk at t) → Reading text at end_is → InPlace t.place 5 → at + 1 ≡ n

@@ -1,11 +1,10 @@
 -- The bytes after one record more.
-use Rattle.std.proofs.Common.{◌≡◌, ℕ, ◌+◌, ◌<◌, ◌≤◌, ◌⊎◌, List, [], ◌∷◌, ◌++◌, length, take, sym, refl, ap, ◌∙◌, subst, inl, inr, arith}
+use Rattle.std.proofs.Common.{◌≡◌, ℕ, ◌+◌, ◌<◌, ◌≤◌, List, ◌++◌, length, take, sym, refl, ap, ◌∙◌, subst, inl, inr, arith}
 use native.Mathlib.Decide.{dec_le}
 use Rattle.std.proofs.lemmas.List.{length_push}
 use Rattle.problem.specs.declared.refusal.Refusal.{Refusal}
 use Rattle.problem.specs.declared.refusal.Refusal.TheVariants.{TooShort}
-use Rattle.text.specs.Bytes.{put}
-use Rattle.text.specs.Texts.{Item, size_is, first_is, action_is, effect_is, end_is, item_kind, item_text, Contents}
+use Rattle.text.specs.Texts.{Item, size_is, first_is, action_is, effect_is, end_is, item_kind, item_text}
 use Rattle.text.specs.Readings.{InPlace, InRange, Naming, Draft, nothing, more, latest, draft_text, Allowed, none, then}
 use Rattle.text.specs.Writings.{Mark, marked, Wrote, Refuses, Refused, Holds, HoldsWhole}
 use Rattle.text.specs.declared.place.Place.{Place}
@@ -13,7 +12,7 @@ use Rattle.text.specs.declared.place.Place.TheVariants.{Start, Acted}
 use Rattle.text.proofs.Numbers.{length_bytes_of}
 use Rattle.text.proofs.Puts.{take_put, length_put}
 use Rattle.text.proofs.Items.{body_long}
-use Rattle.text.proofs.Drafts.{Sound, SoundAt, row_for, at_effect, drafted_sound, more_text, open_end, latest_action, latest_effect}
+use Rattle.text.proofs.Drafts.{SoundAt, row_for, at_effect, drafted_sound, more_text, open_end, latest_action, latest_effect}
 
 lt_of_not_le : (a b : ℕ) → (a ≤ b → ⊥) → b < a
 lt_of_not_le a b n = elim (dec_le a b) [ yes l ↦ absurd (n l) | no l ↦ omega arith ]

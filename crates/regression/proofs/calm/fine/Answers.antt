@@ -1,5 +1,3 @@
-use Rattle.std.proofs.Common.{ℕ, ◌^◌}
-use Rattle.sets.specs.Sets.{Has, minus}
 use Rattle.problem.specs.Problems.{task_of}
 use Rattle.problem.proofs.Every.{minus_in}
 use Rattle.regression.proofs.Rows.{does_own, tells_part}

@@ -1,4 +1,4 @@
-use Rattle.std.proofs.Common.{ℕ, ◌^◌, arith}
+use Rattle.std.proofs.Common.{◌^◌, arith}
 use Rattle.sets.specs.Sets.{minus}
 use Rattle.problem.specs.Problems.{task_of}
 use Rattle.problem.proofs.Every.{pick_in, minus_in}

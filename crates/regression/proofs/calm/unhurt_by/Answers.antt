@@ -1,7 +1,6 @@
-use Rattle.std.proofs.Common.{ℕ, sym, subst, arith}
+use Rattle.std.proofs.Common.{arith}
 use Rattle.problem.specs.Problems.{task_of}
 use Rattle.problem.proofs.Every.{pick_in}
-use Rattle.regression.specs.Doings.{Does}
 use Rattle.regression.proofs.Rows.{does_own}
 use Rattle.regression.proofs.Concerning.{unhurt_start, unhurt_more, unhurt_none, unhurt_end}
 use Rattle.regression.proofs.calm.unhurt_by.Goals as goal

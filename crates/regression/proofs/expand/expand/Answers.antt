@@ -1,10 +1,8 @@
-use Rattle.std.proofs.Common.{◌≡◌, ℕ, ◌<◌, ◌≤◌, ◌⊎◌, refl, inl, inr, arith}
+use Rattle.std.proofs.Common.{◌≡◌, ℕ, ◌≤◌, ◌⊎◌, inl, inr, arith}
 use lib.Count.{ones}
 use Rattle.std.proofs.lemmas.Bool.{false≢true}
-use Rattle.sets.specs.Sets.{Has}
 use Rattle.problem.specs.Problems.{task_of}
 use Rattle.regression.specs.Regions.{region_goal}
-use Rattle.regression.specs.Nodes.{Expanded}
 use Rattle.regression.proofs.Masks.{nothing, and_left, minus_from, so}
 use Rattle.regression.proofs.Splitting.{expanded_as, known_lies, closed_lies, torn_none, no_step_none}
 use Rattle.regression.proofs.expand.expand.Goals as goal

@@ -32,7 +32,7 @@ returns-in-Ask c =
     let a = c.in-Ask.ensures in
     let e : 1 * 2 ^ c.in-Ask.x % 2 ^ 64 ≡ 2 ^ c.in-Ask.x = omega (arith, one_fits c.in-Ask.x a.0) in
     subst (λ (y : ℕ). Splits t q (closed c.args.chosen p)
-    (closed c.args.chosen (record { goal = bit_or p.need y; avoid = p.avoid }))
-    (closed c.args.chosen (record { goal = p.need; avoid = bit_or p.avoid y })))
+    (closed c.args.chosen (record { need = bit_or p.need y; avoid = p.avoid }))
+    (closed c.args.chosen (record { need = p.need; avoid = bit_or p.avoid y })))
     (sym e)
     (split_atom t q c.args.chosen p x a.0 a.1 a.2 (matters_names t.at c.args.chosen q x a.3))

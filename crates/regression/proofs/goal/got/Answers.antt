@@ -1,5 +1,3 @@
-use Rattle.std.proofs.Common.{ℕ, ap, ◌∙◌}
-use Rattle.sets.specs.Sets.{minus}
 use Rattle.problem.specs.Problems.{task_of}
 use Rattle.regression.proofs.Goals.{got_yes, got_no, got_open, got_asked}
 use Rattle.regression.proofs.goal.got.Goals as goal

@@ -1,6 +1,5 @@
-use Rattle.std.proofs.Common.{ℕ, ◌^◌, eqb, Decides, sym, ◌∙◌, subst}
+use Rattle.std.proofs.Common.{ℕ, eqb, Decides, ◌∙◌, subst}
 use lib.Bits.{bit_or}
-use Rattle.sets.specs.Sets.{minus}
 use Rattle.problem.proofs.Every.{minus_in}
 use Rattle.regression.specs.Regions.{region_goal}
 use Rattle.regression.specs.Spans.{Idle}

@@ -1,4 +1,4 @@
-use Rattle.std.proofs.Common.{◌≡◌, ℕ, sym, refl, subst₂, arith}
+use Rattle.std.proofs.Common.{ℕ, refl, subst₂, arith}
 use Rattle.std.proofs.lemmas.Bool.{false≢true}
 use Rattle.problem.specs.Problems.{task_of}
 use Rattle.regression.specs.Regions.{region_goal, top_of}

@@ -1,6 +1,5 @@
-use Rattle.std.proofs.Common.{◌≡◌, ℕ, ◌+◌, ◌-◌, ◌<◌, ◌≤◌, List, length, set, sym, refl, ap, ◌∙◌, subst, arith, length-set}
+use Rattle.std.proofs.Common.{◌≡◌, ℕ, ◌+◌, ◌-◌, List, length, set, refl, ◌∙◌, subst, arith, length-set}
 use lib.Seq.{take-set-le}
-use Rattle.sets.proofs.Members.{inside_lt}
 use Rattle.problem.specs.Problems.{task_of}
 use Rattle.regression.specs.Regions.{region_goal}
 use Rattle.regression.specs.Stacks.{part_of, Carried}

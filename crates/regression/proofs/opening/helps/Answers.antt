@@ -1,4 +1,4 @@
-use Rattle.std.proofs.Common.{◌≡◌, refl, subst, arith, below_more}
+use Rattle.std.proofs.Common.{refl, subst, arith, below_more}
 use Rattle.std.proofs.lemmas.Bool.{false≢true}
 use Rattle.problem.specs.Rows.{effect_at}
 use Rattle.regression.specs.Regions.{region_goal}

@@ -1,4 +1,4 @@
-use Rattle.std.proofs.Common.{◌≡◌, ℕ, ◌<◌, ◌≤◌, List, sym, refl, ◌∙◌, subst, arith}
+use Rattle.std.proofs.Common.{ℕ, ◌<◌, List, sym, refl, ◌∙◌, subst, arith}
 use Rattle.std.proofs.lemmas.Bool.{false≢true}
 use Rattle.sets.proofs.Members.{shift_one, within_below}
 use Rattle.problem.specs.Problems.{task_of}
@@ -36,7 +36,7 @@ returns c =
     let all : (i : ℕ) → i < t.count → Helps q (t.at i).effects → _ = λ i l h. c.loop-i.invariant.all i (omega (arith, l, c.loop-i-test.false), h) in
     record {
       chosen = refl;
-      goal = refl;
+      need = refl;
       avoid = refl;
       candidates = record {
         only = λ i h. let r = c.loop-i.invariant.only i h in (omega (arith, r.0, c.loop-i.auto.i-end), r.1);

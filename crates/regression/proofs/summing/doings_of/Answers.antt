@@ -1,4 +1,4 @@
-use Rattle.std.proofs.Common.{◌-◌, ◌<◌, length, refl, ◌∙◌, arith, length-set}
+use Rattle.std.proofs.Common.{◌-◌, ◌<◌, refl, ◌∙◌, arith, length-set}
 use lib.Count.{ones}
 use lib.Bits.{bit_and}
 use Rattle.problem.proofs.Every.{still_in}

@@ -1,6 +1,6 @@
-use Rattle.std.proofs.Common.{◌≡◌, ℕ, ◌+◌, ◌<◌, ◌≤◌, length}
+use Rattle.std.proofs.Common.{◌≡◌, ◌+◌, ◌≤◌, length}
 use lib.Count.{ones}
-use Rattle.sets.specs.Sets.{Has, Inside, minus}
+use Rattle.sets.specs.Sets.{Inside, minus}
 use Rattle.problem.specs.Problems.{task_of}
 use Rattle.regression.proofs.Rows.{Filled}
 use Rattle.regression.proofs.summing.doings_of.Given as goal

@@ -1,4 +1,4 @@
-use Rattle.std.proofs.Common.{◌≡◌, ℕ, sym, ap, ◌∙◌}
+use Rattle.std.proofs.Common.{ℕ, sym, ap, ◌∙◌}
 use lib.Bits.{bit_and}
 use Rattle.regression.proofs.Firing.{cond_zero, cond_other}
 use Rattle.regression.proofs.totals.help_of.Goals as goal

@@ -1,4 +1,4 @@
-use Rattle.std.proofs.Common.{◌≡◌, sym, refl, ap, ◌∙◌, subst, arith, rules}
+use Rattle.std.proofs.Common.{◌∙◌, arith}
 use Rattle.text.proofs.Numbers.{bytes_of_8, length_bytes_of}
 use Rattle.text.proofs.Puts.{put_from_mid}
 use Rattle.text.proofs.bytes.put_set.Goals as goal

@@ -1,7 +1,7 @@
-use Rattle.std.proofs.Common.{◌≡◌, ℕ, ◌+◌, length, sym, refl, ap, ◌∙◌, subst, arith}
+use Rattle.std.proofs.Common.{◌≡◌, ℕ, ◌+◌, length, sym, refl, subst, arith}
 use Rattle.text.specs.Texts.{first_is, item_text}
 use Rattle.text.specs.Readings.{faulty, Reads, Reading}
-use Rattle.text.specs.Counting.{scaled, begun}
+use Rattle.text.specs.Counting.{scaled}
 use Rattle.text.specs.declared.fault.ProblemFault.{ProblemFault}
 use Rattle.text.proofs.Numbers.{length_bytes_of}
 use Rattle.text.proofs.Decoding.{bytes_under, decoded, misfit_reads, goes_on}

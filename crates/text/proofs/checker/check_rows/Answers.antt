@@ -1,7 +1,7 @@
-use Rattle.std.proofs.Common.{◌≡◌, ℕ, ◌+◌, sym, refl, ap, ◌∙◌, subst, arith}
+use Rattle.std.proofs.Common.{sym, subst, arith}
 use Rattle.std.proofs.lemmas.Result.{err_from_is_err_and}
 use Rattle.text.specs.Records.{kind_of}
-use Rattle.text.specs.Texts.{action_is, effect_is, end_is}
+use Rattle.text.specs.Texts.{action_is, effect_is}
 use Rattle.text.specs.Readings.{InPlace}
 use Rattle.text.specs.declared.record.Record.{Record}
 use Rattle.text.specs.declared.checker.Tally.{Tally}
@@ -13,23 +13,23 @@ use Rattle.text.proofs.checker.check_rows.Goals as goal
 pub loop-found-init : goal.loop-found-init
 loop-found-init c = walk_start c.args.text.now c.args.size.atoms c.args.size.hands c.args.first
 
-pub returns-in_err-tally : goal.returns-in_err-tally
-returns-in_err-tally c =
+pub returns-in_err-tally-in-Action : goal.returns-in_err-tally-in-Action
+returns-in_err-tally-in-Action c =
     let r = c.in_ok-found.ensures in
     let t = decoded c.args.text.now c.loop-found.at c.in_ok-found.found _ (bytes_under _ c.type_inv.text) r.0 r.1 c.in-Action.is (omega arith) in
     let a = action_read c.args.text.now c.loop-found.at _ c.set_at.result c.in-Action.body t c.set_at.ensures in
-    let p = err_from_is_err_and c.from_residual-in_err-tally.result c.from_residual-in_err-tally.ensures.1 in
-    let e = c.in_err-tally.ensures in
+    let p = err_from_is_err_and c.from_residual-in_err-tally-in-Action.result c.from_residual-in_err-tally-in-Action.ensures.1 in
+    let e = c.in_err-tally-in-Action.ensures in
     rw (p.1, p.2, e.1) (walk_misfit c.args.text.now _ _ _ c.loop-found.at c.loop-found.tally (action_is c.set_at.result) c.loop-found.invariant a.0
     (subst (λ (x : Record). InPlace c.loop-found.tally.place (kind_of x)) c.in-Action.is r.2) e.0 e.2)
 
-pub returns-in_err-tally-2 : goal.returns-in_err-tally-2
-returns-in_err-tally-2 c =
+pub returns-in_err-tally-in-Effect : goal.returns-in_err-tally-in-Effect
+returns-in_err-tally-in-Effect c =
     let r = c.in_ok-found.ensures in
     let t = decoded c.args.text.now c.loop-found.at c.in_ok-found.found _ (bytes_under _ c.type_inv.text) r.0 r.1 c.in-Effect.is (omega arith) in
     let a = effect_read c.args.text.now c.loop-found.at _ c.effect_in.result c.in-Effect.body t c.effect_in.ensures in
-    let p = err_from_is_err_and c.from_residual-in_err-tally-2.result c.from_residual-in_err-tally-2.ensures.1 in
-    let e = c.in_err-tally-2.ensures in
+    let p = err_from_is_err_and c.from_residual-in_err-tally-in-Effect.result c.from_residual-in_err-tally-in-Effect.ensures.1 in
+    let e = c.in_err-tally-in-Effect.ensures in
     rw (p.1, p.2, e.1) (walk_misfit c.args.text.now _ _ _ c.loop-found.at c.loop-found.tally (effect_is c.effect_in.result) c.loop-found.invariant a.0
     (subst (λ (x : Record). InPlace c.loop-found.tally.place (kind_of x)) c.in-Effect.is r.2) e.0 e.2)
 
@@ -46,18 +46,18 @@ returns-in_default c =
           (subst (λ (x : Record). InPlace c.loop-found.tally.place (kind_of x)) e r.2) t.after,
     )
 
-pub loop-found-smaller-in_ok-tally : goal.loop-found-smaller-in_ok-tally
-loop-found-smaller-in_ok-tally c =
+pub loop-found-smaller-in_ok-tally-in-Action : goal.loop-found-smaller-in_ok-tally-in-Action
+loop-found-smaller-in_ok-tally-in-Action c =
     let r = c.in_ok-found.ensures in
     let i = found_inside c.args.text.now c.in_ok-found.found r.1 in
     omega (arith, r.0)
 
-pub loop-found-preserved-in_ok-tally : goal.loop-found-preserved-in_ok-tally
-loop-found-preserved-in_ok-tally c =
+pub loop-found-preserved-in_ok-tally-in-Action : goal.loop-found-preserved-in_ok-tally-in-Action
+loop-found-preserved-in_ok-tally-in-Action c =
     let r = c.in_ok-found.ensures in
     let t = decoded c.args.text.now c.loop-found.at c.in_ok-found.found _ (bytes_under _ c.type_inv.text) r.0 r.1 c.in-Action.is (omega arith) in
     let a = action_read c.args.text.now c.loop-found.at _ c.set_at.result c.in-Action.body t c.set_at.ensures in
-    let e = c.in_ok-tally.ensures in
+    let e = c.in_ok-tally-in-Action.ensures in
     subst (λ (x : Tally). Walk c.args.text.now c.args.size.atoms c.args.size.hands c.args.first c.in_ok-found.found.next x) (sym e.0)
     (walk_action c.args.text.now _ _ _ c.loop-found.at _ c.loop-found.tally c.set_at.result c.loop-found.invariant
     (subst (λ (x : Record). InPlace c.loop-found.tally.place (kind_of x)) c.in-Action.is r.2) a.0 e.1 e.2 a.1)
@@ -73,7 +73,7 @@ loop-found-preserved c =
     let r = c.in_ok-found.ensures in
     let t = decoded c.args.text.now c.loop-found.at c.in_ok-found.found _ (bytes_under _ c.type_inv.text) r.0 r.1 c.in-Effect.is (omega arith) in
     let a = effect_read c.args.text.now c.loop-found.at _ c.effect_in.result c.in-Effect.body t c.effect_in.ensures in
-    let e = c.in_ok-tally-2.ensures in
+    let e = c.in_ok-tally-in-Effect.ensures in
     subst (λ (x : Tally). Walk c.args.text.now c.args.size.atoms c.args.size.hands c.args.first c.in_ok-found.found.next x) (sym e.0)
     (walk_effect c.args.text.now _ _ _ c.loop-found.at _ c.loop-found.tally c.effect_in.result c.loop-found.invariant
     (subst (λ (x : Record). InPlace c.loop-found.tally.place (kind_of x)) c.in-Effect.is r.2) a.0 e.1 e.2 a.1)

@@ -1,4 +1,4 @@
-use Rattle.std.proofs.Common.{◌≡◌, ℕ, sym, refl, ap, ◌∙◌, subst, arith}
+use Rattle.std.proofs.Common.{◌≡◌, sym, refl, subst, arith}
 use Rattle.text.specs.Readings.{nothing, faulty, Reads, goes}
 use Rattle.text.specs.declared.fault.ProblemFault.{ProblemFault}
 use Rattle.text.proofs.Decoding.{bytes_under, decoded, misfit_reads}

@@ -1,4 +1,4 @@
-use Rattle.std.proofs.Common.{◌≡◌, ℕ, get_or, sym, refl, ap, ◌∙◌, subst}
+use Rattle.std.proofs.Common.{ℕ, get_or, sym, ap, ◌∙◌}
 use Rattle.text.specs.Records.{code_of, kind_of, body_of}
 use Rattle.text.proofs.Standing.{first_stands}
 use Rattle.text.proofs.Decoding.{bytes_under}

@@ -1,4 +1,4 @@
-use Rattle.std.proofs.Common.{◌≡◌, ℕ, ◌+◌, ◌≤◌, sym, refl, ap, ◌∙◌, subst, arith}
+use Rattle.std.proofs.Common.{arith}
 use Rattle.text.specs.Texts.{contents}
 use Rattle.text.proofs.Decoding.{bytes_under, decoded, found_inside, action_read, effect_read, halted_fault, halted_record}
 use Rattle.text.proofs.Pushing.{kept_push, kept_from}

@@ -1,7 +1,5 @@
-use Rattle.std.proofs.Common.{◌≡◌, Ok, Err, sym, refl, ap, ◌∙◌, subst, inl, inr, arith}
+use Rattle.std.proofs.Common.{Ok, Err, refl, inr, arith}
 use Rattle.std.proofs.lemmas.Result.{err_from_is_err_and}
-use Rattle.text.specs.Readings.{nothing, Reads}
-use Rattle.text.specs.Calls.{told}
 use Rattle.text.proofs.Drafts.{valid_first}
 use Rattle.text.proofs.Exactly.{exact}
 use Rattle.text.proofs.Answering.{took, gives, one}

@@ -1,12 +1,11 @@
-use Rattle.std.proofs.Common.{◌≡◌, ℕ, ◌+◌, ◌<◌, ◌≤◌, List, length, Ok, Err, sym, refl, ap, ◌∙◌, subst, arith}
+use Rattle.std.proofs.Common.{ℕ, length, sym, subst, arith}
 use Rattle.std.proofs.lemmas.Result.{err_from_is_err_and, MatchResult-weaker}
 use Rattle.problem.specs.Rows.{EffectsNamed}
 use Rattle.text.specs.Texts.{action_is, item_text}
 use Rattle.text.specs.Writings.{started_mark}
-use Rattle.text.specs.Appending.{effects_text, Appends}
+use Rattle.text.specs.Appending.{effects_text}
 use Rattle.text.specs.declared.writer.StartedText.{StartedText}
 use Rattle.text.proofs.Numbers.{length_bytes_of}
-use Rattle.text.proofs.Puts.{length_put}
 use Rattle.text.proofs.Lengths.{action_long, effects_long}
 use Rattle.text.proofs.Drafts.{action_after}
 use Rattle.text.proofs.Written.{not_refused}

@@ -1,8 +1,8 @@
-use Rattle.std.proofs.Common.{◌≡◌, ℕ, ◌+◌, ◌<◌, ◌≤◌, List, length, take, drop, sym, refl, ap, ◌∙◌, subst, arith}
+use Rattle.std.proofs.Common.{◌≡◌, ℕ, ◌+◌, ◌<◌, List, length, sym, refl, ap, ◌∙◌, subst, arith}
 use Rattle.sets.specs.Sets.{Within}
 use Rattle.problem.specs.Actions.{Action}
-use Rattle.problem.specs.Rows.{EffectsNamed, row_at}
-use Rattle.problem.specs.Problems.{task_of, action_at}
+use Rattle.problem.specs.Rows.{EffectsNamed}
+use Rattle.problem.specs.Problems.{task_of}
 use Rattle.problem.specs.declared.rows.EffectRow.{EffectRow}
 use Rattle.text.specs.Texts.{action_text, actions_text}
 use Rattle.text.specs.Appending.{Appends}

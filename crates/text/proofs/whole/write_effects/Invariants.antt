@@ -1,5 +1,4 @@
-use Rattle.std.proofs.Common.{◌≡◌, ◌+◌, length, take}
-use Rattle.text.specs.Bytes.{put}
+use Rattle.std.proofs.Common.{◌≡◌, take}
 use Rattle.text.specs.Appending.{effects_text, Appends}
 use Rattle.text.proofs.whole.write_effects.Given as goal
 

@@ -1,4 +1,4 @@
-use Rattle.std.proofs.Common.{◌≡◌, ℕ, ◌+◌, ◌≤◌, [], length, sym, refl, ap, ◌∙◌, subst, arith}
+use Rattle.std.proofs.Common.{ℕ, ◌≤◌, [], length, sym, refl, ap, ◌∙◌, subst, arith}
 use Rattle.sets.specs.Sets.{Within}
 use Rattle.text.specs.Texts.{size_is, first_is, end_is, contents_of, Valid}
 use Rattle.text.specs.Writings.{Mark, blank_mark, sized_mark, started_mark}

@@ -1,4 +1,4 @@
-use Rattle.std.proofs.Common.{◌≡◌, ℕ, ◌+◌, List, [], ◌∷◌, sym, refl, ap, ◌∙◌, subst, arith}
+use Rattle.std.proofs.Common.{ℕ, ◌+◌, List, [], ◌∷◌, refl, ap, ◌∙◌, arith}
 use Rattle.text.specs.Bytes.{bytes_of, put}
 use Rattle.text.proofs.Puts.{put_one, put_put}
 use Rattle.text.proofs.writer.put_set_record.Goals as goal

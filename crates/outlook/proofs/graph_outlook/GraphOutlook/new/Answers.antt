@@ -8,7 +8,11 @@ use Rattle.outlook.proofs.graph_outlook.GraphOutlook.new.Goals as goal
 pub invariant_of-result : goal.invariant_of-result
 invariant_of-result c =
     let of = c.build-graph.ensures in
-    (of.atoms, (∣ of ∣₁, (∣ closing_rule (task_of c.args.problem) c.build-graph.result of c.closing-closing.result c.closing-closing.ensures ∣₁, tt)))
+    record {
+      sized = of.atoms;
+      built = ∣ of ∣₁;
+      closes = ∣ closing_rule (task_of c.args.problem) c.build-graph.result of c.closing-closing.result c.closing-closing.ensures ∣₁;
+    }
 
 pub returns : goal.returns
 returns c =

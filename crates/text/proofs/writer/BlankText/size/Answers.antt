@@ -1,7 +1,6 @@
-use Rattle.std.proofs.Common.{◌≡◌, ℕ, ◌+◌, List, [], ◌∷◌, set, sym, refl, ap, ◌∙◌, subst, arith}
-use Rattle.text.specs.Bytes.{put}
+use Rattle.std.proofs.Common.{◌≡◌, ℕ, ◌+◌, List, [], ◌∷◌, set, refl, ap, ◌∙◌, arith}
 use Rattle.text.specs.Texts.{size_is}
-use Rattle.text.specs.Writings.{blank_mark, sized_mark, Wrote}
+use Rattle.text.specs.Writings.{blank_mark, Wrote}
 use Rattle.text.proofs.Puts.{put_one, put_more}
 use Rattle.text.proofs.Written.{holds_more}
 use Rattle.text.proofs.writer.BlankText.size.Goals as goal

@@ -1,8 +1,8 @@
-use Rattle.std.proofs.Common.{◌≡◌, ℕ, ◌+◌, sym, refl, ap, ◌∙◌, subst, add-one, arith}
+use Rattle.std.proofs.Common.{◌≡◌, ℕ, ◌+◌, refl, ap, add-one, arith}
 use Rattle.std.proofs.lemmas.Bool.{false≢true}
 use Rattle.text.specs.Texts.{action_is}
 use Rattle.text.specs.Readings.{place_after}
-use Rattle.text.specs.Writings.{Mark, started_mark, Wrote}
+use Rattle.text.specs.Writings.{started_mark, Wrote}
 use Rattle.text.proofs.Numbers.{length_bytes_of}
 use Rattle.text.proofs.Drafts.{action_after}
 use Rattle.text.proofs.Written.{holds_more, too_short}

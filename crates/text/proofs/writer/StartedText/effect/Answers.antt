@@ -1,8 +1,7 @@
-use Rattle.std.proofs.Common.{◌≡◌, ℕ, ◌+◌, ◌<◌, length, sym, refl, ap, ◌∙◌, subst, arith}
+use Rattle.std.proofs.Common.{◌≡◌, ◌+◌, ◌<◌, refl, ap, arith}
 use Rattle.std.proofs.lemmas.Bool.{false≢true}
-use Rattle.text.specs.Texts.{effect_is, item_text}
-use Rattle.text.specs.Readings.{place_after}
-use Rattle.text.specs.Writings.{Mark, started_mark, Wrote}
+use Rattle.text.specs.Texts.{effect_is}
+use Rattle.text.specs.Writings.{started_mark, Wrote}
 use Rattle.text.proofs.Items.{body_long}
 use Rattle.text.proofs.Drafts.{effect_after, acted_after}
 use Rattle.text.proofs.Written.{holds_more, too_short}

@@ -1,4 +1,4 @@
-use Rattle.std.proofs.Common.{◌≡◌, refl, arith}
+use Rattle.std.proofs.Common.{refl, arith}
 use Rattle.text.specs.Texts.{end_is}
 use Rattle.text.specs.Writings.{started_mark, Wrote}
 use Rattle.text.proofs.Puts.{put_one}

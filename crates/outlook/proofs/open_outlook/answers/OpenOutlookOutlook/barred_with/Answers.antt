@@ -4,5 +4,5 @@ use Rattle.outlook.proofs.open_outlook.answers.OpenOutlookOutlook.barred_with.Go
 
 pub returns : goal.returns
 returns c =
-    let asked = c.in-ok-check-question.ensures in
+    let asked = c.in_ok-check_question.ensures in
     (asked.0, ltb-true _ _ asked.1, none_marks _ (λ k b. b.1))
