@@ -10,8 +10,8 @@ use store::{Position, Store};
 
 // Whether the store covers a position; it declines where these numbers are not those of one.
 pub fn review<S: Store>(store: &S, level: u8, need: u64, avoid: u64) -> Result<bool, Refusal>
-    ensures promise { Reviews (at level (goal_of need avoid)) result (meaning store.now) (meaning store.now) }
-    ensures claim { (t : Task) → Fits t → Goes_on t (meaning store.now) (reviews (at level (goal_of need avoid)) result) (meaning store.now) }
+    ensures promise { Reviews (at level (goal_of need avoid)) result (S.meaning store.now) (S.meaning store.now) }
+    ensures claim { (t : Task) → Fits t → Goes_on t (S.meaning store.now) (reviews (at level (goal_of need avoid)) result) (S.meaning store.now) }
 {
     let position = Position::new(level, need, avoid)?;
     Ok(store.review(&position))
@@ -19,8 +19,8 @@ pub fn review<S: Store>(store: &S, level: u8, need: u64, avoid: u64) -> Result<b
 
 // Lets the store begin anew.
 pub fn clear<S: Store>(store: &mut S)
-    ensures promise { Blank (meaning store.new) }
-    ensures claim { (t : Task) → Fits t → Goes_on t (meaning store.old) clears (meaning store.new) }
+    ensures promise { Blank (S.meaning store.new) }
+    ensures claim { (t : Task) → Fits t → Goes_on t (S.meaning store.old) clears (S.meaning store.new) }
 {
     store.clear();
 }

@@ -16,8 +16,8 @@ pub(crate) fn check<O: Outlook, S: Store>(
     room: usize,
 ) -> Result<(), Refusal>
     ensures { MatchResult result
-        (λ _. Passes (plan_checks (task outlook.now) (meaning store.now) (question_of asked) room))
-        (λ e. Declines (plan_checks (task outlook.now) (meaning store.now) (question_of asked) room) e) }
+        (λ _. Passes (plan_checks (O.task outlook.now) (S.meaning store.now) (question_of asked) room))
+        (λ e. Declines (plan_checks (O.task outlook.now) (S.meaning store.now) (question_of asked) room) e) }
 {
     let atoms = outlook.problem().atoms as usize;
     if !within(asked.need, atoms) || !within(asked.avoid, atoms) {

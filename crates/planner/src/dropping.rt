@@ -11,7 +11,7 @@ use store::{Position, Store};
 
 // Whether a set holds a pair that is barred at a level; of a set or level that the outlook does not know it says no.
 pub(crate) fn barred<O: Outlook>(outlook: &O, level: u8, set: u64) -> bool
-    ensures { Decides result (KnownBarred (task outlook.now) (view outlook.now) level set) }
+    ensures { Decides result (KnownBarred (O.task outlook.now) (O.view outlook.now) level set) }
 {
     match holds_barred(outlook, level, set) {
         Ok(holds) => holds,
@@ -21,8 +21,8 @@ pub(crate) fn barred<O: Outlook>(outlook: &O, level: u8, set: u64) -> bool
 
 // Whether no run at all reaches a goal that needs the set, by the closing level.
 pub(crate) fn shut<O: Outlook>(outlook: &O, need: u64, avoid: u64) -> bool
-    requires { Within (task outlook.now).atoms need }
-    ensures { Decides result (Shut (view outlook.now) (goal_of need avoid)) }
+    requires { Within (O.task outlook.now).atoms need }
+    ensures { Decides result (Shut (O.view outlook.now) (goal_of need avoid)) }
 {
     match outlook.closing() {
         Some(level) => barred(outlook, level, need),
@@ -33,7 +33,7 @@ pub(crate) fn shut<O: Outlook>(outlook: &O, need: u64, avoid: u64) -> bool
 // Whether the store covers a position.
 fn covered<S: Store>(store: &S, level: u8, need: u64, avoid: u64) -> bool
     requires { Proper (at level (goal_of need avoid)) }
-    ensures { Decides result (Covered (meaning store.now) (at level (goal_of need avoid))) }
+    ensures { Decides result (Covered (S.meaning store.now) (at level (goal_of need avoid))) }
 {
     match Position::new(level, need, avoid) {
         Ok(position) => store.review(&position),
@@ -50,8 +50,8 @@ pub(crate) fn dropped<O: Outlook, S: Store>(
     avoid: u64,
 ) -> bool
     requires proper { Proper (at level (goal_of need avoid)) }
-    requires named { Within (task outlook.now).atoms need }
-    ensures { Decides result (Dropped (view outlook.now) (meaning store.now) (at level (goal_of need avoid))) }
+    requires named { Within (O.task outlook.now).atoms need }
+    ensures { Decides result (Dropped (O.view outlook.now) (S.meaning store.now) (at level (goal_of need avoid))) }
 {
     barred(outlook, level, need) || covered(store, level, need, avoid)
 }

@@ -15,12 +15,12 @@ use store::Store;
 // Looks for what is next below the lowest position: due positions that are not to be opened are passed by.
 pub(crate) fn look<O: Outlook, S: Store>(outlook: &O, store: &S, path: &mut Path) -> Next
     requires some { 0 < path.old.depth }
-    requires placed { Placed (task outlook.now) (position (frame_at path.old.frames (path.old.depth - 1))) }
-    requires shape { Shape (task outlook.now) path.old }
+    requires placed { Placed (O.task outlook.now) (position (frame_at path.old.frames (path.old.depth - 1))) }
+    requires shape { Shape (O.task outlook.now) path.old }
     ensures nexts { (a : Question) (m₀ : Meaning) (n k : ℕ)
-        → Seeks (task outlook.now) (view outlook.now) a m₀ (meaning store.now) n path.old k
-        → Nexts (task outlook.now) (view outlook.now) a m₀ (meaning store.now) n path.new k result }
-    ensures shape { Shape (task outlook.now) path.new }
+        → Seeks (O.task outlook.now) (O.view outlook.now) a m₀ (S.meaning store.now) n path.old k
+        → Nexts (O.task outlook.now) (O.view outlook.now) a m₀ (S.meaning store.now) n path.new k result }
+    ensures shape { Shape (O.task outlook.now) path.new }
     ensures depth { path.new.depth ≡ path.old.depth }
     ensures frames { path.new.frames ≡ path.old.frames }
 {

@@ -24,10 +24,10 @@ pub fn plan<O: Outlook, S: Store<Teller = Teller>>(
     budget: u32,
     list: &mut [u64],
 ) -> Result<Report, Refusal>
-    ensures promise { Plans (task outlook.now) (view outlook.now) (question need avoid limit budget) result
-        list.old list.new (meaning store.old) (meaning store.new) }
-    ensures claim { Goes_on (task outlook.now) (meaning store.old)
-        (plans (view outlook.now) (question need avoid limit budget) result list.old list.new) (meaning store.new) }
+    ensures promise { Plans (O.task outlook.now) (O.view outlook.now) (question need avoid limit budget) result
+        list.old list.new (S.meaning store.old) (S.meaning store.new) }
+    ensures claim { Goes_on (O.task outlook.now) (S.meaning store.old)
+        (plans (O.view outlook.now) (question need avoid limit budget) result list.old list.new) (S.meaning store.new) }
 {
     let asked = Asked {
         need,

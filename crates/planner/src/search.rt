@@ -26,9 +26,9 @@ pub(crate) fn search<O: Outlook, S: Store<Teller = Teller>>(
     asked: Asked,
     list: &mut [u64],
 ) -> Ending
-    requires { Passes (plan_checks (task outlook.now) (meaning store.old) (question_of asked) (length list.old)) }
-    ensures { Ran (task outlook.now) (view outlook.now) (question_of asked) result list.old list.new
-        (meaning store.old) (meaning store.new) }
+    requires { Passes (plan_checks (O.task outlook.now) (S.meaning store.old) (question_of asked) (length list.old)) }
+    ensures { Ran (O.task outlook.now) (O.view outlook.now) (question_of asked) result list.old list.new
+        (S.meaning store.old) (S.meaning store.new) }
 {
     if meets(outlook.problem().first, asked.need, asked.avoid) {
         return Ending {
@@ -66,16 +66,16 @@ fn search_round<O: Outlook, S: Store<Teller = Teller>>(
 ) -> Progress
     requires none { path.old.depth ≡ 0 }
     requires short { failed < asked.limit }
-    requires missed { Meets (goal_of asked.need asked.avoid) (task outlook.now).first → ⊥ }
-    requires shape { Shape (task outlook.now) path.old }
-    requires sought { UnderWay (task outlook.now) (view outlook.now) (question_of asked) (meaning store.old) (length list.old) failed
+    requires missed { Meets (goal_of asked.need asked.avoid) (O.task outlook.now).first → ⊥ }
+    requires shape { Shape (O.task outlook.now) path.old }
+    requires sought { UnderWay (O.task outlook.now) (O.view outlook.now) (question_of asked) (S.meaning store.old) (length list.old) failed
         path.old opened }
     ensures progress { (m₀ : Meaning)
-        → Seeks (task outlook.now) (view outlook.now) (question_of asked) m₀ (meaning store.old) failed
+        → Seeks (O.task outlook.now) (O.view outlook.now) (question_of asked) m₀ (S.meaning store.old) failed
         path.old opened
-        → Progressed (task outlook.now) (view outlook.now) (question_of asked) m₀ (meaning store.new) (failed + 1)
+        → Progressed (O.task outlook.now) (O.view outlook.now) (question_of asked) m₀ (S.meaning store.new) (failed + 1)
         path.new list.old list.new result }
-    ensures shape { Shape (task outlook.now) path.new }
+    ensures shape { Shape (O.task outlook.now) path.new }
     ensures unwritten { WhenOn result (λ k. list.new ≡ list.old) }
     ensures none { WhenOn result (λ k. path.new.depth ≡ 0) }
 {

@@ -27,15 +27,15 @@ pub(crate) fn work<O: Outlook, S: Store<Teller = Teller>>(
     list: &mut [u64],
 ) -> Progress
     requires some { 0 < path.old.depth }
-    requires shape { Shape (task outlook.now) path.old }
-    requires sought { (n : ℕ) × UnderWay (task outlook.now) (view outlook.now) (question_of asked) (meaning store.old) (length list.old) n
+    requires shape { Shape (O.task outlook.now) path.old }
+    requires sought { (n : ℕ) × UnderWay (O.task outlook.now) (O.view outlook.now) (question_of asked) (S.meaning store.old) (length list.old) n
         path.old opened }
     ensures progress { (m₀ : Meaning) (n : ℕ)
-        → Seeks (task outlook.now) (view outlook.now) (question_of asked) m₀ (meaning store.old) n
+        → Seeks (O.task outlook.now) (O.view outlook.now) (question_of asked) m₀ (S.meaning store.old) n
         path.old opened
-        → Progressed (task outlook.now) (view outlook.now) (question_of asked) m₀ (meaning store.new) n
+        → Progressed (O.task outlook.now) (O.view outlook.now) (question_of asked) m₀ (S.meaning store.new) n
         path.new list.old list.new result }
-    ensures shape { Shape (task outlook.now) path.new }
+    ensures shape { Shape (O.task outlook.now) path.new }
     ensures unwritten { WhenOn result (λ k. list.new ≡ list.old) }
     ensures less { WhenOn result
         (λ k. 2 * (asked.budget - k) + path.new.depth < 2 * (asked.budget - opened) + path.old.depth) }

@@ -47,9 +47,9 @@ impl Path {
         step: u64,
     )
         requires shallow { self.old.depth < 32 }
-        requires shape { Shape (task outlook.now) self.old }
-        ensures entered { Entered (task outlook.now) self.old (at level (goal_of need avoid)) step self.new }
-        ensures shape { Shape (task outlook.now) self.new }
+        requires shape { Shape (O.task outlook.now) self.old }
+        ensures entered { Entered (O.task outlook.now) self.old (at level (goal_of need avoid)) step self.new }
+        ensures shape { Shape (O.task outlook.now) self.new }
     {
         let base = self.len;
         match begin_work(
@@ -98,9 +98,9 @@ impl Path {
     pub(crate) fn take_due<O: Outlook>(&mut self, outlook: &O) -> Option<Due>
         requires some { 0 < self.old.depth }
         requires level { 0 < (frame_at self.old.frames (self.old.depth - 1)).level }
-        requires shape { Shape (task outlook.now) self.old }
-        ensures took { Took (task outlook.now) (view outlook.now) (held_of self.old) result (held_of self.new) }
-        ensures shape { Shape (task outlook.now) self.new }
+        requires shape { Shape (O.task outlook.now) self.old }
+        ensures took { Took (O.task outlook.now) (O.view outlook.now) (held_of self.old) result (held_of self.new) }
+        ensures shape { Shape (O.task outlook.now) self.new }
         ensures depth { self.new.depth ≡ self.old.depth }
         ensures frames { self.new.frames ≡ self.old.frames }
     {

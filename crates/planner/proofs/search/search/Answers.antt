@@ -21,8 +21,8 @@ loop-failed-init g c = (
   rw c.new-path.ensures.none seek_none,
 )
 
-pub search-round-requires : goal.search-round-requires
-search-round-requires g c =
+pub search_round-requires : goal.search_round-requires
+search_round-requires g c =
     let l = c.loop-failed in
     let m₀ = g.S.Store.meaning c.args.store.now in
     record {

@@ -31,8 +31,8 @@ returns-then-opened-asked g c = record {
   none = tt;
 }
 
-pub overflow-add-opened : goal.overflow-add-opened
-overflow-add-opened g c =
+pub overflow_add-opened : goal.overflow_add-opened
+overflow_add-opened g c =
     let lt : c.args.opened < c.args.asked.budget = omega (arith, under_budget c.requires.sought, c.if-opened-asked.false) in
     search rules
 

@@ -15,8 +15,8 @@ pub look-requires : goal.look-requires
 look-requires g c =
     record { some = c.requires.some; placed = is_placed c.requires.sought.1 c.requires.some (g.O.Outlook.fits c.args.outlook.now); shape = c.requires.shape }
 
-pub write-plan-requires : goal.write-plan-requires
-write-plan-requires g c = record {
+pub write_plan-requires : goal.write_plan-requires
+write_plan-requires g c = record {
   some = c.requires.some;
   held = omega (arith, c.requires.shape.deep, c.look.ensures.shape.frames);
   room = in_list c.requires.sought.1;
@@ -27,9 +27,9 @@ returns-in-Found g c =
     let p' = c.look.new.path in
     let d = c.args.path.now.depth in
     record {
-      progress = λ m₀ n x. ran_plan p' d c.args.opened c.in-Found.step c.args.list.now c.args.list.now c.write-plan.new.list
+      progress = λ m₀ n x. ran_plan p' d c.args.opened c.in-Found.step c.args.list.now c.args.list.now c.write_plan.new.list
           c.requires.some c.look.ensures.depth refl
-          (c.in-Found.ensures.nexts (question_of c.args.asked) m₀ n c.args.opened x) (rw c.look.ensures.depth c.write-plan.ensures);
+          (c.in-Found.ensures.nexts (question_of c.args.asked) m₀ n c.args.opened x) (rw c.look.ensures.depth c.write_plan.ensures);
       shape = c.look.ensures.shape;
       unwritten = tt;
       less = tt;
@@ -51,8 +51,8 @@ returns-then-opened-asked g c =
       less = tt;
     }
 
-pub overflow-sub-lowest : goal.overflow-sub-lowest
-overflow-sub-lowest g c =
+pub overflow_sub-lowest : goal.overflow_sub-lowest
+overflow_sub-lowest g c =
     let placed = is_placed c.requires.sought.1 c.requires.some (g.O.Outlook.fits c.args.outlook.now) in
     omega (arith, placed.0.ranked.0, ap (λ (f : Frame). f.level) c.lowest-lowest.ensures)
 
@@ -70,8 +70,8 @@ open-requires g c =
       shape = c.look.ensures.shape;
     }
 
-pub overflow-add-result : goal.overflow-add-result
-overflow-add-result g c =
+pub overflow_add-result : goal.overflow_add-result
+overflow_add-result g c =
     let lt : c.args.opened < c.args.asked.budget = omega (arith, under_budget c.requires.sought.1, c.if-opened-asked.false) in
     search rules
 
