@@ -6,7 +6,7 @@ use lib.Dec.{eqb_refl}
 use Rattle.sets.specs.Sets.{bit, Has, Apart, Within, minus}
 use Rattle.sets.proofs.Bits.{and_inside, inside_and}
 use Rattle.sets.proofs.Members.{below_within, not_in_none, bit_one}
-use Rattle.problem.specs.Actions.{Among as Of-effects}
+use Rattle.problem.specs.Actions.{Among as OfEffects}
 use Rattle.problem.specs.Rows.{names_of}
 use Rattle.problem.specs.Firm.{Task, OrderOf, Runs, FirmStep}
 use Rattle.problem.specs.Runs.{Run, start, more, Goal, Meets}
@@ -51,12 +51,12 @@ easy_fits = record {
   few_actions = omega arith;
   few_effects = λ k lt. omega arith;
   preconditions = λ k lt j h. absurd (none j h);
-  effects = λ k lt e h. ⊎-one e h;
+  effects = λ k lt e h. ⊎_one e h;
 }
   where
-    ⊎-one : (e : EffectRow) → Of-effects e (record { condition = 0; add = 1; delete = 0 } ∷ []) → Within 1 (names_of e)
-    ⊎-one e (inl x) = subst (λ (y : EffectRow). Within 1 (names_of y)) (sym x) (below_within 1 1 (omega arith))
-    ⊎-one e (inr x) = absurd x
+    ⊎_one : (e : EffectRow) → OfEffects e (record { condition = 0; add = 1; delete = 0 } ∷ []) → Within 1 (names_of e)
+    ⊎_one e (inl x) = subst (λ (y : EffectRow). Within 1 (names_of y)) (sym x) (below_within 1 1 (omega arith))
+    ⊎_one e (inr x) = absurd x
 
 -- without actions a firm step ends where it starts
 stays : (s step end : ℕ) → FirmStep hopeless s step end → s ≡ end

@@ -11,7 +11,7 @@ use Rattle.store.specs.Stores.{Meaning, Blank}
 use Rattle.outlook.specs.Outlooks.{View, Lawful}
 use Rattle.claim.specs.Search.{Question, GoalNames, Open, Event, Search}
 use Rattle.claim.specs.Turns.{NamedBelow, Passes, plan_checks, Answers, Plans, Reviews, Call, plans, reviews, clears, Promise, Turn, Brings, Turns}
-use Rattle.claim.specs.Claim.{Sound, OfCall, Each, of_call, in_all, one_clear, clears_in, EveryListOfTurns, Goes_on, turn}
+use Rattle.claim.specs.Claim.{Sound, OfCall, Each, of_call, in_all, one_clear, clears_in, EveryListOfTurns, GoesOn, turn}
 use Rattle.claim.specs.declared.outcome.Outcome.{Outcome}
 use Rattle.claim.specs.declared.outcome.Outcome.TheVariants.{Plan, Never, NotWithin, Spent}
 use Rattle.claim.specs.declared.report.Report.{Report}
@@ -128,7 +128,7 @@ every_list p fits ts m x =
     }
 
 -- a call that keeps its promise goes on from every list of turns
-pub goes_on : (p : Task) → Fits p → (m : Meaning) (call : Call) (m' : Meaning) → Brings p call → Promise p m call m' → Goes_on p m call m'
+pub goes_on : (p : Task) → Fits p → (m : Meaning) (call : Call) (m' : Meaning) → Brings p call → Promise p m call m' → GoesOn p m call m'
 goes_on p fits m call m' brings promise = record {
   follows = λ ts x. (x, brings, promise, refl);
   claims = λ ts x. every_list p fits (turn m call m' ∷ ts) m' (x, brings, promise, refl);
@@ -137,12 +137,12 @@ goes_on p fits m call m' brings promise = record {
 -- so each call, from the promise of its one turn
 pub plan_goes_on : (p : Task) → Fits p → (v : View) → Lawful p v
     → (a : Question) (r : Result Report Refusal) (old new : List ℕ) (m m' : Meaning)
-    → Plans p v a r old new m m' → Goes_on p m (plans v a r old new) m'
+    → Plans p v a r old new m m' → GoesOn p m (plans v a r old new) m'
 plan_goes_on p fits v law a r old new m m' x = goes_on p fits m (plans v a r old new) m' law x
 
 pub review_goes_on : (p : Task) → Fits p → (q : Target) (r : Result Bool Refusal) (m m' : Meaning) → Reviews q r m m'
-    → Goes_on p m (reviews q r) m'
+    → GoesOn p m (reviews q r) m'
 review_goes_on p fits q r m m' x = goes_on p fits m (reviews q r) m' tt x
 
-pub clear_goes_on : (p : Task) → Fits p → (m m' : Meaning) → Blank m' → Goes_on p m clears m'
+pub clear_goes_on : (p : Task) → Fits p → (m m' : Meaning) → Blank m' → GoesOn p m clears m'
 clear_goes_on p fits m m' x = goes_on p fits m clears m' tt x

@@ -170,6 +170,6 @@ abbrev pub turn : Meaning → Call → Meaning → Turn
 turn m call m' = record { before = m; call = call; after = m' }
 
 -- every list of turns that ends in the meaning m goes on with this call, which leaves the meaning m', and then the claim holds of it
-pub record Goes_on (t : Task) (m : Meaning) (call : Call) (m' : Meaning) : Type 0 where
+pub record GoesOn (t : Task) (m : Meaning) (call : Call) (m' : Meaning) : Type 0 where
   pub follows : (turns : List Turn) → Turns t turns m → Turns t (turn m call m' ∷ turns) m'
   pub claims : (turns : List Turn) → Turns t turns m → Claim t (turn m call m' ∷ turns) m'

@@ -2,7 +2,7 @@
 use Rattle.std.specs.Prelude.{◌≡◌, ℕ, suc, ◌+◌, ◌<◌, ◌≤◌, ◌⊎◌, List, [], ◌∷◌}
 use Rattle.sets.specs.Sets.{Has, Apart}
 use Rattle.problem.specs.Rows.{names_of}
-use Rattle.problem.specs.Actions.{Action, Among as Of-effects}
+use Rattle.problem.specs.Actions.{Action, Among as OfEffects}
 use Rattle.problem.specs.Firm.{Task, FirmStep}
 use Rattle.problem.specs.Runs.{Goal, Meets}
 use Rattle.problem.specs.declared.rows.EffectRow.{EffectRow}
@@ -21,7 +21,7 @@ pub record Question : Type 0 where
 
 -- an action, and a goal, names the atom k
 abbrev pub ActionNames : Action → ℕ → Type 0
-ActionNames a k = Has a.precondition k ⊎ ((e : EffectRow) × Of-effects e a.effects × Has (names_of e) k)
+ActionNames a k = Has a.precondition k ⊎ ((e : EffectRow) × OfEffects e a.effects × Has (names_of e) k)
 
 abbrev pub GoalNames : Goal → ℕ → Type 0
 GoalNames g k = Has g.need k ⊎ Has g.avoid k

@@ -3,7 +3,7 @@ ghost use Rattle.problem.specs.Problems.{Fits};
 ghost use Rattle.store.specs.Positions.{at, goal_of};
 ghost use Rattle.store.specs.Stores.{Blank};
 ghost use Rattle.claim.specs.Turns.{Reviews, reviews, clears};
-ghost use Rattle.claim.specs.Claim.{Goes_on};
+ghost use Rattle.claim.specs.Claim.{GoesOn};
 
 use problem::Refusal;
 use store::{Position, Store};
@@ -11,7 +11,7 @@ use store::{Position, Store};
 // Whether the store covers a position; it declines where these numbers are not those of one.
 pub fn review<S: Store>(store: &S, level: u8, need: u64, avoid: u64) -> Result<bool, Refusal>
     ensures promise { Reviews (at level (goal_of need avoid)) result (S.meaning store.now) (S.meaning store.now) }
-    ensures claim { (t : Task) → Fits t → Goes_on t (S.meaning store.now) (reviews (at level (goal_of need avoid)) result) (S.meaning store.now) }
+    ensures claim { (t : Task) → Fits t → GoesOn t (S.meaning store.now) (reviews (at level (goal_of need avoid)) result) (S.meaning store.now) }
 {
     let position = Position::new(level, need, avoid)?;
     Ok(store.review(&position))
@@ -20,7 +20,7 @@ pub fn review<S: Store>(store: &S, level: u8, need: u64, avoid: u64) -> Result<b
 // Lets the store begin anew.
 pub fn clear<S: Store>(store: &mut S)
     ensures promise { Blank (S.meaning store.new) }
-    ensures claim { (t : Task) → Fits t → Goes_on t (S.meaning store.old) clears (S.meaning store.new) }
+    ensures claim { (t : Task) → Fits t → GoesOn t (S.meaning store.old) clears (S.meaning store.new) }
 {
     store.clear();
 }

@@ -1,6 +1,6 @@
 ghost use Rattle.std.specs.Prelude.{length};
 ghost use Rattle.claim.specs.Turns.{Plans, plans};
-ghost use Rattle.claim.specs.Claim.{Goes_on};
+ghost use Rattle.claim.specs.Claim.{GoesOn};
 ghost use Rattle.planner.specs.Questions.{question};
 
 use crate::asked::Asked;
@@ -26,7 +26,7 @@ pub fn plan<O: Outlook, S: Store<Teller = Teller>>(
 ) -> Result<Report, Refusal>
     ensures promise { Plans (O.task outlook.now) (O.view outlook.now) (question need avoid limit budget) result
         list.old list.new (S.meaning store.old) (S.meaning store.new) }
-    ensures claim { Goes_on (O.task outlook.now) (S.meaning store.old)
+    ensures claim { GoesOn (O.task outlook.now) (S.meaning store.old)
         (plans (O.view outlook.now) (question need avoid limit budget) result list.old list.new) (S.meaning store.new) }
 {
     let asked = Asked {

@@ -9,7 +9,7 @@ use Rattle.problem.specs.Firm.{Turn, Runs}
 use Rattle.problem.specs.Orders.{Order, EveryOrder}
 use Rattle.problem.specs.Calm.{Calm, Ends}
 use Rattle.problem.proofs.Listed.{left_in, left_other, left_has, some_order}
-use Rattle.problem.proofs.Effects.{result_bit, net_apart, fires_inside, inside_fires, same_tests, alike_all, decT}
+use Rattle.problem.proofs.Effects.{result_bit, net_apart, fires_inside, inside_fires, same_tests, alike_all, dec_T}
 
 -- t is reached from s, and of the actions of step those of rest are still to run
 pub record Reached (at : ℕ → Action) (s step t rest : ℕ) : Type 0 where
@@ -39,7 +39,7 @@ module _ (at : ℕ → Action) (s step : ℕ) (calm : Calm at s step) where
       alike_all (at i).effects s t (λ e among. same_tests (fires s e) (fires t e)
           (λ f. inside_fires t e (λ k h. r.stays k (fires_inside s e f k h) (λ j hj n c. calm.holds i j (r.part i hi) hj (other j n) e among f k h c)))
           (λ f. let sub = fires_inside t e f in
-          elim (decT (fires s e)) [
+          elim (dec_T (fires s e)) [
             | yes y ↦ y
             | no n ↦ absurd (calm.rests i (r.part i hi) e among n (λ k h. elim (r.source k (sub k h)) [
               | inl a ↦ inl a

@@ -51,9 +51,9 @@ same_tests true false f g = absurd (f tt)
 same_tests false true f g = absurd (g tt)
 same_tests false false f g = refl
 
-pub decT : (b : Bool) → Dec (T b)
-decT true = yes tt
-decT false = no (λ z. z)
+pub dec_T : (b : Bool) → Dec (T b)
+dec_T true = yes tt
+dec_T false = no (λ z. z)
 
 pub alike_all : (es : List EffectRow) (s t : ℕ) → ((e : EffectRow) → Among e es → fires s e ≡ fires t e) → FireAlike es s t
 alike_all [] s t f = tt
