@@ -1,5 +1,5 @@
 -- Work on a position begins.
-use Rattle.std.proofs.Common.{◌≡◌, ℕ, zero, suc, ◌+◌, ◌<◌, ◌≤◌, List, [], ◌∷◌, length, set, sym, refl, ap, ◌∙◌, subst, inl, arith, length-set}
+use Rattle.std.proofs.Common.{◌≡◌, ℕ, ◌+◌, ◌<◌, ◌≤◌, List, [], ◌∷◌, length, set, sym, refl, ap, ◌∙◌, subst, inl, arith, length-set}
 use Rattle.problem.specs.Firm.{Task}
 use Rattle.problem.specs.Runs.{Goal}
 use Rattle.regression.specs.Roots.{Root, Begun as Begins}
@@ -8,7 +8,7 @@ use Rattle.regression.specs.declared.node.Node.{Node}
 use Rattle.regression.specs.declared.found.Part.{Part}
 use Rattle.store.specs.Positions.{at, goal_of}
 use Rattle.planner.specs.Paths.{Held, Begun}
-use Rattle.planner.specs.Works.{waits, may, held, held_of, AllOrderly, Shape, Entered}
+use Rattle.planner.specs.Works.{waits, may, held_of, AllOrderly, Shape, Entered}
 use Rattle.planner.specs.declared.frame.Frame.{Frame}
 use Rattle.planner.specs.declared.path.Path.{Path}
 use Rattle.planner.proofs.Holding.{part_length, opened_held, opened_sized, sized_room}

@@ -1,5 +1,5 @@
 -- The closing level of an outlook.
-use Rattle.std.proofs.Common.{◌≡◌, ℕ, Some, None, Option, sym, ap, ◌∙◌, subst}
+use Rattle.std.proofs.Common.{◌≡◌, ℕ, Some, subst}
 use Rattle.problem.specs.Runs.{Goal}
 use Rattle.outlook.specs.Outlooks.{View, Barred, Shut}
 

@@ -1,6 +1,5 @@
 -- What is next below the lowest position, by what the work on it gave.
 use Rattle.std.proofs.Common.{◌≡◌, ℕ, ◌+◌, ◌-◌, ◌<◌, ◌≤◌, List, [], ◌∷◌, length, Some, None, sym, refl, ap, subst, inl, inr, arith}
-use Rattle.sets.specs.Sets.{Has, Within}
 use Rattle.problem.specs.Firm.{Task}
 use Rattle.problem.specs.Runs.{Goal, Meets}
 use Rattle.problem.specs.Problems.{Fits}
@@ -8,12 +7,12 @@ use Rattle.regression.specs.Regions.{region_goal}
 use Rattle.regression.specs.Stacks.{weights}
 use Rattle.regression.specs.declared.node.Node.{Node}
 use Rattle.regression.specs.declared.found.Due.{Due}
-use Rattle.store.specs.Positions.{Target, at, goal_of, Proper}
+use Rattle.store.specs.Positions.{Target, at}
 use Rattle.store.specs.Stores.{Meaning}
 use Rattle.outlook.specs.Outlooks.{View}
 use Rattle.claim.specs.Search.{Question, ActionNames, GoalNames, Dropped}
 use Rattle.claim.specs.declared.outcome.Outcome.TheVariants.{Plan}
-use Rattle.planner.specs.Paths.{Held, with_work, steps_of, Sought, Offered, Gave, Ended}
+use Rattle.planner.specs.Paths.{Held, with_work, steps_of, Sought, Gave, Ended}
 use Rattle.planner.specs.Works.{waits, may, lowest_of, lowest_weight, Placed, Offers, Idle, Took}
 use Rattle.planner.proofs.Moves.{gave_dropped, gave_missed, gave_found, gave_offered, gave_nothing}
 

@@ -1,18 +1,17 @@
 -- What each move of a search that is under way leads to.
-use Rattle.std.proofs.Common.{◌≡◌, ℕ, suc, ◌+◌, ◌^◌, ◌<◌, ◌≤◌, ◌⊎◌, List, [], ◌∷◌, length, Some, None, Option, sym, refl, ap, ◌∙◌, subst, inl, inr, ⊎_elim, arith}
-use Rattle.problem.specs.Firm.{Task, FirmStep}
+use Rattle.std.proofs.Common.{◌≡◌, ℕ, suc, ◌+◌, ◌<◌, ◌≤◌, List, [], ◌∷◌, length, Some, None, Option, sym, refl, ap, ◌∙◌, subst, inl, inr, ⊎_elim, arith}
+use Rattle.problem.specs.Firm.{Task}
 use Rattle.problem.specs.Runs.{Goal, Meets}
 use Rattle.store.specs.Positions.{Target, at}
 use Rattle.store.specs.Stores.{Meaning, Covered, Told}
 use Rattle.store.specs.declared.answer.Answer.{Answer}
 use Rattle.outlook.specs.Outlooks.{View}
-use Rattle.claim.specs.Lists.{Among}
-use Rattle.claim.specs.Search.{Question, Due, Dropped, Open, fresh, with_below, Next, opening, round_of, Event, opened, told, opened_in, Exhausted, Search, begins, drops, opens, tells}
-use Rattle.claim.specs.Turns.{path, Found, Ends}
-use Rattle.claim.specs.declared.outcome.Outcome.TheVariants.{Plan, Never, NotWithin, Spent}
+use Rattle.claim.specs.Search.{Question, Due, Dropped, Open, fresh, with_below, Next, Event, opened, told, Exhausted, Search, begins, drops, opens, tells}
+use Rattle.claim.specs.Turns.{path}
+use Rattle.claim.specs.declared.outcome.Outcome.TheVariants.{Plan, NotWithin, Spent}
 use Rattle.claim.proofs.Opening.{Chain}
 use Rattle.claim.proofs.Searching.{chain}
-use Rattle.planner.specs.Paths.{Held, with_work, steps_of, Begun, Stands, AllStand, Sought, Offered, Gave, Done, Ended}
+use Rattle.planner.specs.Paths.{Held, with_work, steps_of, Begun, AllStand, Sought, Offered, Gave, Done, Ended}
 use Rattle.planner.proofs.Seeking.{all_on, all_told, stands_on, stands_gave, stands_missed, stands_done, stands_begun, due_of, exhausted}
 
 module _ {W : Type 0} (waits : Goal → W → ℕ → ℕ → Type 0) (may : W → ℕ → ℕ → Type 0) (t : Task) (v : View) where

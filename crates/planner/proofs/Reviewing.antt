@@ -1,5 +1,5 @@
 -- The promise of a review, from what making a position and asking the store say.
-use Rattle.std.proofs.Common.{◌≡◌, Bool, Ok, Err, refl, ap, ◌∙◌, subst, inl, inr}
+use Rattle.std.proofs.Common.{◌≡◌, Bool, Ok, Err, refl, ap, ◌∙◌, inl, inr}
 use Rattle.problem.specs.declared.refusal.Refusal.{Refusal}
 use Rattle.store.specs.Positions.{Target, Proper}
 use Rattle.store.specs.Declines.{PositionDeclines}

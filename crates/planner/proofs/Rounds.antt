@@ -1,30 +1,30 @@
 -- The turns of the loop that searches, over the path.
-use Rattle.std.proofs.Common.{◌≡◌, ℕ, suc, ◌+◌, ◌-◌, ◌<◌, ◌≤◌, List, [], ◌∷◌, ◌++◌, length, drop, Some, None, sym, refl, ap, ◌∙◌, subst, inl, inr, ⊎_elim, arith}
+use Rattle.std.proofs.Common.{◌≡◌, ℕ, ◌+◌, ◌-◌, ◌<◌, ◌≤◌, List, [], ◌∷◌, ◌++◌, length, drop, Some, None, sym, refl, ap, ◌∙◌, subst, inl, inr, arith}
 use Rattle.sets.specs.Sets.{Apart}
 use Rattle.problem.specs.Firm.{Task}
 use Rattle.problem.specs.Runs.{Goal, Meets}
 use Rattle.problem.specs.Problems.{Fits}
 use Rattle.regression.specs.declared.node.Node.{Node}
-use Rattle.store.specs.Positions.{Target, at, goal_of, Proper}
+use Rattle.store.specs.Positions.{Target, at}
 use Rattle.store.specs.Stores.{Meaning, Told}
 use Rattle.store.specs.declared.answer.Answer.{Answer}
 use Rattle.outlook.specs.Outlooks.{View}
 use Rattle.claim.specs.Search.{Question, Dropped, Open, Next, Search, begins}
-use Rattle.claim.specs.Turns.{Passes, plan_checks, NamedBelow}
+use Rattle.claim.specs.Turns.{Passes, plan_checks}
 use Rattle.claim.specs.declared.outcome.Outcome.{Outcome}
-use Rattle.claim.specs.declared.outcome.Outcome.TheVariants.{Plan, Never, NotWithin, Spent}
+use Rattle.claim.specs.declared.outcome.Outcome.TheVariants.{Plan, NotWithin, Spent}
 use Rattle.claim.proofs.Opening.{Chain}
 use Rattle.claim.proofs.Searching.{chain, within, room_to_tell}
 use Rattle.claim.proofs.Storing.{proper}
 use Rattle.claim.proofs.Turning.{named, unshared}
-use Rattle.planner.specs.Frames.{frame_at, way}
-use Rattle.planner.specs.Paths.{Held, steps_of, Begun, AllStand, Sought, Offered, Ended}
-use Rattle.planner.specs.Works.{waits, may, position, lowest_of, Placed, held, held_of, Offers, Idle, Entered}
+use Rattle.planner.specs.Frames.{way}
+use Rattle.planner.specs.Paths.{Held, steps_of, AllStand, Sought, Offered, Ended}
+use Rattle.planner.specs.Works.{waits, may, lowest_of, Placed, held, held_of, Offers, Idle, Entered}
 use Rattle.planner.specs.Endings.{Ran}
 use Rattle.planner.specs.declared.path.Path.{Path}
-use Rattle.planner.proofs.Holding.{held_length, held_lowest_of, held_way}
+use Rattle.planner.proofs.Holding.{held_length, held_way}
 use Rattle.planner.proofs.Written.{way_length}
-use Rattle.planner.proofs.Moves.{held_length as open-length, seek_none, goal_dropped, goal_opened, goal_spent, all_failed, offered_opened, offered_spent, lowest_told}
+use Rattle.planner.proofs.Moves.{held_length as open-length, goal_dropped, goal_opened, goal_spent, all_failed, offered_opened, offered_spent, lowest_told}
 
 -- by the checks
 module _ (t : Task) (m : Meaning) (a : Question) (room : ℕ) (checks : Passes (plan_checks t m a room)) where

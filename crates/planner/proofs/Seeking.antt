@@ -1,17 +1,14 @@
 -- The steps of a search that is under way, over the list of the positions that it holds.
-use Rattle.std.proofs.Common.{◌≡◌, ℕ, suc, ◌+◌, ◌^◌, ◌<◌, ◌≤◌, ◌⊎◌, List, [], ◌∷◌, Some, None, Option, sym, refl, ap, ◌∙◌, subst, inl, inr, ⊎_elim, arith}
-use Rattle.problem.specs.Firm.{Task, FirmStep}
+use Rattle.std.proofs.Common.{◌≡◌, ℕ, ◌+◌, ◌≤◌, ◌⊎◌, List, [], ◌∷◌, Some, None, Option, sym, refl, ap, ◌∙◌, subst, inl, inr, ⊎_elim, arith}
+use Rattle.problem.specs.Firm.{Task}
 use Rattle.problem.specs.Runs.{Goal, Meets}
 use Rattle.store.specs.Positions.{Target, at}
 use Rattle.store.specs.Stores.{Meaning, Covered, Told}
 use Rattle.store.specs.declared.answer.Answer.{Answer}
 use Rattle.store.specs.declared.answer.Answer.TheVariants.{Known, Kept, PassedOver}
-use Rattle.outlook.specs.Outlooks.{View, Barred}
-use Rattle.claim.specs.Lists.{Among}
-use Rattle.claim.specs.Search.{Question, Due, Dropped, Open, fresh, with_below, Next, opening, round_of, Event, opened, told, WasTold, opened_in, Exhausted, Search, begins, drops, opens, tells}
-use Rattle.claim.proofs.Opening.{Chain}
-use Rattle.claim.proofs.Searching.{chain}
-use Rattle.planner.specs.Paths.{Handled, MeetsSome, Pruned, MeetsPruned, Held, with_work, steps_of, Begun, Stands, AllStand, Sought, Offered, Gave, Done}
+use Rattle.outlook.specs.Outlooks.{View}
+use Rattle.claim.specs.Search.{Due, Open, fresh, Event, told, WasTold, Exhausted}
+use Rattle.planner.specs.Paths.{Handled, MeetsSome, MeetsPruned, Held, with_work, Begun, Stands, AllStand, Gave, Done}
 
 -- a store that is told something still covers what it covered
 pub told_grows : (m : Meaning) (q : Target) (b : Answer) (m' : Meaning) → Told m q b m' → (r : Target) → Covered m r → Covered m' r

@@ -1,20 +1,16 @@
 -- The work on the lowest position of a path goes on.
-use Rattle.std.proofs.Common.{◌≡◌, ℕ, zero, suc, ◌+◌, ◌-◌, ◌*◌, ◌<◌, ◌≤◌, ◌⊎◌, List, [], ◌∷◌, length, take, Some, None, sym, refl, ap, ◌∙◌, subst, ap₂, inl, inr, arith}
+use Rattle.std.proofs.Common.{◌≡◌, ℕ, ◌+◌, ◌-◌, ◌<◌, ◌≤◌, List, [], ◌∷◌, length, take, Some, None, sym, refl, ap, ◌∙◌, subst, inl, inr, arith}
 use lib.Bits.{bit_or}
-use Rattle.sets.specs.Sets.{Has}
 use Rattle.sets.proofs.Bits.{bit_of_or, bit_digit}
 use Rattle.problem.specs.Actions.{Action}
 use Rattle.problem.specs.Firm.{Task}
 use Rattle.problem.specs.Runs.{Goal}
-use Rattle.problem.specs.Rows.{names_of}
 use Rattle.problem.specs.declared.rows.EffectRow.{EffectRow}
 use Rattle.regression.specs.Regions.{region_goal}
 use Rattle.regression.specs.Matters.{ActionNames as Names}
-use Rattle.regression.specs.Stacks.{node_in, part_of, Slim, Orderly, Carried, Brings, Finds}
+use Rattle.regression.specs.Stacks.{part_of, Slim, Orderly, Carried, Brings}
 use Rattle.regression.specs.declared.node.Node.{Node}
 use Rattle.regression.specs.declared.found.Due.{Due}
-use Rattle.regression.specs.declared.found.Found.{Found}
-use Rattle.regression.specs.declared.found.Found.TheVariants.{Made, Done, NoRoom}
 use Rattle.store.specs.Positions.{goal_of}
 use Rattle.outlook.specs.Outlooks.{View}
 use Rattle.claim.specs.Search.{ActionNames}

@@ -3,7 +3,7 @@ use Rattle.std.specs.Prelude.{◌≡◌, ℕ, ◌+◌, ◌<◌, ◌≤◌, ◌�
 use Rattle.sets.specs.Sets.{Has, Apart, Within}
 use Rattle.problem.specs.Firm.{Task, FirmStep}
 use Rattle.problem.specs.Runs.{Goal, Meets}
-use Rattle.store.specs.Positions.{Target, at}
+use Rattle.store.specs.Positions.{Target}
 use Rattle.store.specs.Stores.{Meaning, Covered}
 use Rattle.outlook.specs.Outlooks.{View, Barred}
 use Rattle.claim.specs.Lists.{Among}

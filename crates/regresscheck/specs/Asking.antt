@@ -1,5 +1,4 @@
 -- Which states are asked for.
-use Rattle.std.specs.Prelude.{ℕ}
 use Rattle.sets.specs.Sets.{Inside}
 use Rattle.problem.specs.Runs.{Goal, Meets}
 use Rattle.regresscheck.specs.declared.asked.Asked.{Asked}

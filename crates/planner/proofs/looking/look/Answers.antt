@@ -1,10 +1,9 @@
-use Rattle.std.proofs.Common.{◌≡◌, ℕ, ◌+◌, ◌-◌, ◌<◌, ◌≤◌, sym, refl, ap, ◌∙◌, subst, arith}
+use Rattle.std.proofs.Common.{◌-◌, sym, refl, ap, ◌∙◌, subst, arith}
 use Rattle.std.proofs.lemmas.Bool.{false≢true}
 use Rattle.problem.specs.Firm.{Task}
-use Rattle.problem.specs.Problems.{task_of}
 use Rattle.problem.specs.Runs.{Meets}
 use Rattle.store.specs.Positions.{Target, goal_of}
-use Rattle.planner.specs.Works.{held_of, lowest_of, position, Placed}
+use Rattle.planner.specs.Works.{held_of, Placed}
 use Rattle.planner.proofs.Holding.{lowest_is, lowest_level}
 use Rattle.planner.proofs.Coming.{took_placed, took_less, came_found, came_missed, came_dropped, came_offered, came_nothing}
 use Rattle.planner.proofs.looking.look.Goals as goal

@@ -1,4 +1,4 @@
-use Rattle.std.proofs.Common.{◌≡◌, ℕ, [], ap, arith}
+use Rattle.std.proofs.Common.{ℕ, [], ap, arith}
 use Rattle.text.specs.Writings.{Mark}
 use Rattle.texttests.proofs.model.write_model.Goals as goal
 
@@ -6,29 +6,29 @@ pub returns : goal.returns
 returns c =
     let len : Mark → ℕ = λ k. k.len in
     let h = c.new-blank.ensures c.args.out.now in
-    let h1 = c.in-ok-sized.ensures.written _ h in
-    let h2 = c.in-ok-started.ensures.written _ h1 in
-    let h3 = c.in-ok-check.ensures.written _ h2 in
-    let h4 = c.in-ok-check-2.ensures.written _ h3 in
-    let h5 = c.in-ok-post.ensures.written _ h4 in
-    let h6 = c.in-ok-post-2.ensures.written _ h5 in
-    let h7 = c.in-ok-sweep.ensures.written _ h6 in
-    let h8 = c.in-ok-sweep-2.ensures.written _ h7 in
-    let h9 = c.in-ok-sweep-3.ensures.written _ h8 in
-    let w = c.in-ok-ended.ensures.written _ h9 in (
+    let h1 = c.in_ok-sized.ensures.written _ h in
+    let h2 = c.in_ok-started.ensures.written _ h1 in
+    let h3 = c.in_ok-check.ensures.written _ h2 in
+    let h4 = c.in_ok-check-2.ensures.written _ h3 in
+    let h5 = c.in_ok-post.ensures.written _ h4 in
+    let h6 = c.in_ok-post-2.ensures.written _ h5 in
+    let h7 = c.in_ok-sweep.ensures.written _ h6 in
+    let h8 = c.in_ok-sweep-2.ensures.written _ h7 in
+    let h9 = c.in_ok-sweep-3.ensures.written _ h8 in
+    let w = c.in_ok-ended.ensures.written _ h9 in (
       omega (
         arith,
         (c.new-blank.ensures []).inside,
-        ap len c.in-ok-sized.ensures.answer.next,
-        ap len c.in-ok-started.ensures.answer.next,
-        ap len c.in-ok-check.ensures.answer.next,
-        ap len c.in-ok-check-2.ensures.answer.next,
-        ap len c.in-ok-post.ensures.answer.next,
-        ap len c.in-ok-post-2.ensures.answer.next,
-        ap len c.in-ok-sweep.ensures.answer.next,
-        ap len c.in-ok-sweep-2.ensures.answer.next,
-        ap len c.in-ok-sweep-3.ensures.answer.next,
-        ap len c.in-ok-ended.ensures.answer.next,
+        ap len c.in_ok-sized.ensures.answer.next,
+        ap len c.in_ok-started.ensures.answer.next,
+        ap len c.in_ok-check.ensures.answer.next,
+        ap len c.in_ok-check-2.ensures.answer.next,
+        ap len c.in_ok-post.ensures.answer.next,
+        ap len c.in_ok-post-2.ensures.answer.next,
+        ap len c.in_ok-sweep.ensures.answer.next,
+        ap len c.in_ok-sweep-2.ensures.answer.next,
+        ap len c.in_ok-sweep-3.ensures.answer.next,
+        ap len c.in_ok-ended.ensures.answer.next,
       ),
       (w.inside, w.bytes),
     )

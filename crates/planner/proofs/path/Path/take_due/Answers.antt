@@ -1,4 +1,4 @@
-use Rattle.std.proofs.Common.{◌<◌, ◌≤◌, refl, ◌∙◌, arith, rules}
+use Rattle.std.proofs.Common.{◌<◌, ◌≤◌, refl, ◌∙◌, rules}
 use Rattle.planner.proofs.Taking.{based, low_base, took_due, due_shape, due_few, took_none, none_shape, never_full}
 use Rattle.planner.proofs.path.Path.take_due.Goals as goal
 
