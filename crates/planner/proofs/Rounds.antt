@@ -19,7 +19,7 @@ use Rattle.claim.proofs.Storing.{proper}
 use Rattle.claim.proofs.Turning.{named, unshared}
 use Rattle.planner.specs.Frames.{way}
 use Rattle.planner.specs.Paths.{Held, steps_of, AllStand, Sought, Offered, Ended}
-use Rattle.planner.specs.Works.{waits, may, lowest_of, Placed, held, held_of, Offers, Idle, Entered}
+use Rattle.planner.specs.Works.{waits, may, lowest_of, Placed, held_of, Offers, Idle, Entered}
 use Rattle.planner.specs.Endings.{Ran}
 use Rattle.planner.specs.declared.path.Path.{Path}
 use Rattle.planner.proofs.Holding.{held_length, held_way}
@@ -89,27 +89,34 @@ module _ (t : Task) (v : View) (a : Question) (m₀ m : Meaning) (n k : ℕ) whe
         go (o ∷ os) x e = omega (arith, room_to_tell o x, few_counts t m₀ a room checks)
 
 -- the turns where nothing is held
-none_held : (p : Path) → p.depth ≡ 0 → held_of p ≡ []
-none_held p none = ap (λ (d : ℕ). held d p.frames p.nodes p.len) none
+pub nothing_held : (p : Path) → p.depth ≡ 0 → length (held_of p) ≡ 0
+nothing_held p none = held_length p.depth p.frames p.nodes p.len ∙ none
 
 module _ {t : Task} {v : View} {a : Question} {m₀ m : Meaning} {n k : ℕ} where
-  pub round_dropped : (p : Path) → p.depth ≡ 0 → n < a.limit → (Meets a.goal t.first → ⊥)
-      → Dropped v m (at (n + 1) a.goal) → Sought (waits t) may t v a m₀ m n (held_of p) k → Sought (waits t) may t v a m₀ m (n + 1) (held_of p) k
-  round_dropped p none lt fails d s = rw (none_held p none) (goal_dropped (rw (none_held p none) at s) lt fails d)
+  pub round_dropped : (hs : List (Held (List Node))) → length hs ≡ 0 → n < a.limit → (Meets a.goal t.first → ⊥)
+      → Dropped v m (at (n + 1) a.goal) → Sought (waits t) may t v a m₀ m n hs k → Sought (waits t) may t v a m₀ m (n + 1) hs k
+  round_dropped [] none lt fails d s = goal_dropped s lt fails d
+  round_dropped (h ∷ hs) none lt fails d s = absurd (let z : ⊥ = omega arith in z)
 
-  pub round_opened : (p p' : Path) → p.depth ≡ 0 → n < a.limit → (Meets a.goal t.first → ⊥)
+  pub round_opened : (p p' : Path) → length (held_of p) ≡ 0 → n < a.limit → (Meets a.goal t.first → ⊥)
       → (Dropped v m (at (n + 1) a.goal) → ⊥) → k < a.budget → Entered t p (at (n + 1) a.goal) 0 p'
       → Sought (waits t) may t v a m₀ m n (held_of p) k → Sought (waits t) may t v a m₀ m (n + 1) (held_of p') (k + 1)
-  round_opened p p' none lt fails d room x s =
-      rw (x.is, none_held p none) (goal_opened x.work (rw (none_held p none) at s) lt fails d room x.begun)
+  round_opened p p' none lt fails d room x s = subst (λ (ys : List (Held (List Node))). Sought (waits t) may t v a m₀ m (n + 1) ys (k + 1)) (sym x.is) (go (held_of p) none s)
+    where
+      go : (hs : List (Held (List Node))) → length hs ≡ 0 → Sought (waits t) may t v a m₀ m n hs k
+          → Sought (waits t) may t v a m₀ m (n + 1) (record { position = at (n + 1) a.goal; step = 0; work = x.work } ∷ hs) (k + 1)
+      go [] none s = goal_opened x.work s lt fails d room x.begun
+      go (h ∷ hs) none s = absurd (let z : ⊥ = omega arith in z)
 
-  pub round_spent : (p : Path) → p.depth ≡ 0 → n < a.limit → (Meets a.goal t.first → ⊥)
-      → (Dropped v m (at (n + 1) a.goal) → ⊥) → k ≡ a.budget → Sought (waits t) may t v a m₀ m n (held_of p) k → Ended t v a m₀ m Spent [] k 0
-  round_spent p none lt fails d full s = goal_spent (rw (none_held p none) at s) lt fails d full
+  pub round_spent : (hs : List (Held (List Node))) → length hs ≡ 0 → n < a.limit → (Meets a.goal t.first → ⊥)
+      → (Dropped v m (at (n + 1) a.goal) → ⊥) → k ≡ a.budget → Sought (waits t) may t v a m₀ m n hs k → Ended t v a m₀ m Spent [] k 0
+  round_spent [] none lt fails d full s = goal_spent s lt fails d full
+  round_spent (h ∷ hs) none lt fails d full s = absurd (let z : ⊥ = omega arith in z)
 
-  pub rounds_failed : (p : Path) → p.depth ≡ 0 → n ≡ a.limit → (Meets a.goal t.first → ⊥)
-      → Sought (waits t) may t v a m₀ m n (held_of p) k → Ended t v a m₀ m NotWithin [] k 0
-  rounds_failed p none e fails s = all_failed (rw (none_held p none) at s) e fails
+  pub rounds_failed : (hs : List (Held (List Node))) → length hs ≡ 0 → n ≡ a.limit → (Meets a.goal t.first → ⊥)
+      → Sought (waits t) may t v a m₀ m n hs k → Ended t v a m₀ m NotWithin [] k 0
+  rounds_failed [] none e fails s = all_failed s e fails
+  rounds_failed (h ∷ hs) none e fails s = absurd (let z : ⊥ = omega arith in z)
 
   -- the turns below the lowest position
   pub below_opened : (p p' : Path) (l step : ℕ) (q : Goal) → (lowest_of (held_of p)).level ≡ l + 1 → k < a.budget

@@ -5,8 +5,9 @@ use Rattle.problem.specs.Firm.{Task}
 use Rattle.claim.specs.Turns.{plan_checks}
 use Rattle.claim.specs.declared.outcome.Outcome.TheVariants.{NotWithin}
 use Rattle.planner.specs.Questions.{question_of}
+use Rattle.planner.specs.Works.{held_of}
 use Rattle.planner.proofs.Moves.{seek_none}
-use Rattle.planner.proofs.Rounds.{rounds_failed, ran_first, ran_none}
+use Rattle.planner.proofs.Rounds.{nothing_held, rounds_failed, ran_first, ran_none}
 use Rattle.planner.proofs.search.search.Goals as goal
 
 pub returns-then-meets : goal.returns-then-meets
@@ -53,5 +54,5 @@ pub returns : goal.returns
 returns g c =
     let l = c.loop-failed in
     ran_none NotWithin l.opened 0 c.args.list.now l.list l.invariant.0
-    (rounds_failed l.path l.invariant.1 (omega (arith, c.loop-failed-test.false, l.auto.failed-end))
+    (rounds_failed (held_of l.path) (nothing_held l.path l.invariant.1) (omega (arith, c.loop-failed-test.false, l.auto.failed-end))
     (λ x. false≢true (c.if-meets.ensures.1 (rw (ap (λ (t : Task). t.first) c.problem.ensures) x))) l.invariant.3)

@@ -4,8 +4,9 @@ use Rattle.std.proofs.lemmas.Bool.{false≢true}
 use Rattle.claim.specs.Turns.{plan_checks}
 use Rattle.claim.specs.declared.outcome.Outcome.TheVariants.{Spent}
 use Rattle.planner.specs.Questions.{question_of}
+use Rattle.planner.specs.Works.{held_of}
 use Rattle.planner.proofs.Lowest.{under_budget}
-use Rattle.planner.proofs.Rounds.{goal_placed, round_dropped, round_opened, round_spent, ran_none}
+use Rattle.planner.proofs.Rounds.{nothing_held, goal_placed, round_dropped, round_opened, round_spent, ran_none}
 use Rattle.planner.proofs.search.search_round.Goals as goal
 
 pub dropped-requires : goal.dropped-requires
@@ -16,7 +17,7 @@ dropped-requires g c =
 
 pub returns-then-dropped : goal.returns-then-dropped
 returns-then-dropped g c = record {
-  progress = λ m₀ x. round_dropped c.args.path.now c.requires.none c.requires.short c.requires.missed (c.if-dropped.ensures.0 refl) x;
+  progress = λ m₀ x. round_dropped (held_of c.args.path.now) (nothing_held c.args.path.now c.requires.none) c.requires.short c.requires.missed (c.if-dropped.ensures.0 refl) x;
   shape = c.requires.shape;
   unwritten = refl;
   none = c.requires.none;
@@ -25,7 +26,7 @@ returns-then-dropped g c = record {
 pub returns-then-opened-asked : goal.returns-then-opened-asked
 returns-then-opened-asked g c = record {
   progress = λ m₀ x. ran_none Spent c.args.opened 0 c.args.list.now c.args.list.now refl
-      (round_spent c.args.path.now c.requires.none c.requires.short c.requires.missed (λ d. false≢true (c.if-dropped.ensures.1 d)) c.if-opened-asked.true x);
+      (round_spent (held_of c.args.path.now) (nothing_held c.args.path.now c.requires.none) c.requires.short c.requires.missed (λ d. false≢true (c.if-dropped.ensures.1 d)) c.if-opened-asked.true x);
   shape = c.requires.shape;
   unwritten = tt;
   none = tt;
@@ -44,7 +45,7 @@ work-requires g c =
     let p = c.args.path.now in
     let l = c.loop-path in
     let lt : c.args.opened < c.args.asked.budget = omega (arith, under_budget c.requires.sought, c.if-opened-asked.false) in
-    let begun = round_opened p c.open.new.self c.requires.none c.requires.short c.requires.missed (λ d. false≢true (c.if-dropped.ensures.1 d)) lt c.open.ensures.entered
+    let begun = round_opened p c.open.new.self (nothing_held p c.requires.none) c.requires.short c.requires.missed (λ d. false≢true (c.if-dropped.ensures.1 d)) lt c.open.ensures.entered
     c.requires.sought.sought in
     record {
       some = omega (arith, c.loop-path-test.true);
@@ -75,7 +76,7 @@ returns-in-Over g c =
     let lt : c.args.opened < c.args.asked.budget = omega (arith, under_budget c.requires.sought, c.if-opened-asked.false) in
     record {
       progress = λ m₀ x.
-          let begun = round_opened p c.open.new.self c.requires.none c.requires.short c.requires.missed (λ d. false≢true (c.if-dropped.ensures.1 d)) lt c.open.ensures.entered x in
+          let begun = round_opened p c.open.new.self (nothing_held p c.requires.none) c.requires.short c.requires.missed (λ d. false≢true (c.if-dropped.ensures.1 d)) lt c.open.ensures.entered x in
           rw l.invariant.0 at (c.in-Over.ensures.progress m₀ (c.args.failed + 1) (l.invariant.2 m₀ begun));
       shape = c.work.ensures.shape;
       unwritten = tt;
@@ -89,7 +90,7 @@ returns g c =
     let lt : c.args.opened < c.args.asked.budget = omega (arith, under_budget c.requires.sought, c.if-opened-asked.false) in
     record {
       progress = λ m₀ x.
-          let begun = round_opened p c.open.new.self c.requires.none c.requires.short c.requires.missed (λ d. false≢true (c.if-dropped.ensures.1 d)) lt c.open.ensures.entered x in
+          let begun = round_opened p c.open.new.self (nothing_held p c.requires.none) c.requires.short c.requires.missed (λ d. false≢true (c.if-dropped.ensures.1 d)) lt c.open.ensures.entered x in
           l.invariant.2 m₀ begun;
       shape = l.invariant.1;
       unwritten = l.invariant.0;
