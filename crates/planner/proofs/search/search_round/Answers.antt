@@ -1,7 +1,6 @@
 use Rattle.std.proofs.Common.{ℕ, ◌+◌, ◌<◌, length, sym, refl, ap, ◌∙◌, subst, arith, rules}
-use Rattle.claim.specs.Turns.{Passes}
 use Rattle.std.proofs.lemmas.Bool.{false≢true}
-use Rattle.claim.specs.Turns.{plan_checks}
+use Rattle.claim.specs.Turns.{Passes, plan_checks}
 use Rattle.claim.specs.declared.outcome.Outcome.TheVariants.{Spent}
 use Rattle.planner.specs.Questions.{question_of}
 use Rattle.planner.specs.Works.{held_of}
