@@ -1,4 +1,5 @@
-use regression::{Dismissal, Region};
+use problem::Goal;
+use regression::Dismissal;
 
 // Dismisses nothing.
 #[derive(Drop)]
@@ -7,7 +8,7 @@ pub(crate) struct Nothing;
 impl Dismissal for Nothing {
     ghost dismissed = { λ _ _. ⊥ };
 
-    fn dismisses(&self, _region: Region) -> bool {
+    fn dismisses(&self, _region: Goal) -> bool {
         false
     }
 }

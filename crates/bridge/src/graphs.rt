@@ -1,6 +1,9 @@
-use crate::random::scatter;
+use crate::random::{scatter, scattered_behind};
+use crate::reading::Rows;
 use graph::Graph;
 use problem::{ActionRow, EffectRow, Problem};
+use sets::without;
+use std::array::from_fn;
 
 // The set of one atom that a number stands for.
 fn one_of(x: u64) -> u64 {
@@ -11,7 +14,7 @@ fn one_of(x: u64) -> u64 {
 fn scattered_effect(x: u64, first: bool) -> EffectRow {
     let condition = if first { 0 } else { one_of(x) };
     let add = one_of(scatter(x));
-    let delete = one_of(scatter(x ^ 1)) & !add;
+    let delete = without(one_of(scatter(x ^ 1)), add);
     EffectRow {
         condition,
         add,
@@ -19,53 +22,43 @@ fn scattered_effect(x: u64, first: bool) -> EffectRow {
     }
 }
 
-// Writes the rows of a scattered problem.
-fn scattered(seed: u64, actions: &mut [ActionRow; 64], effects: &mut [EffectRow; 512]) {
-    let mut x = seed;
-    for i in 0..64 {
-        x = scatter(x);
-        actions[i] = ActionRow {
-            precondition: one_of(x),
+// The rows of a scattered problem: a number of its own for each action, and behind it one for each of the action's effects.
+fn scattered(seed: u64) -> Rows {
+    let mut numbers = [0; 576];
+    for (place, x) in numbers.iter_mut().zip(scattered_behind(seed)) {
+        *place = x;
+    }
+    Rows {
+        actions: from_fn(|i| ActionRow {
+            precondition: one_of(numbers[9 * i]),
             first_effect: 8 * i,
-        };
-        for j in 0..8 {
-            x = scatter(x);
-            effects[8 * i + j] = scattered_effect(x, j == 0);
-        }
+        }),
+        effects: from_fn(|i| scattered_effect(numbers[i / 8 * 9 + 1 + i % 8], i % 8 == 0)),
     }
 }
 
 // The graph's facts and some of its exclusions, added up.
 fn added_up(graph: &Graph) -> u64 {
-    let mut sum: u64 = 0;
-    for n in 0..33u8 {
-        sum = sum.wrapping_add(graph.facts_at(n).unwrap_or(0));
-        sum = sum.wrapping_add(graph.exclusive_with(n, 2 * n % 64).unwrap_or(0));
-    }
-    sum
+    (0..33u8).fold(0, |sum: u64, n| {
+        sum.wrapping_add(graph.facts_at(n).unwrap_or(0))
+            .wrapping_add(graph.exclusive_with(n, 2 * n % 64).unwrap_or(0))
+    })
 }
 
-// Builds so many planning graphs of scattered problems with 64 atoms and 64 actions of 8 effects.
+// Builds the planning graph of a scattered problem with 64 atoms and 64 actions of 8 effects.
+fn built(seed: u64) -> u64 {
+    let rows = scattered(seed);
+    let first = scatter(seed ^ 5) & scatter(seed ^ 6) & scatter(seed ^ 7);
+    Problem::new(64, 4, first, &rows.actions, &rows.effects).map_or(0, |problem| {
+        added_up(&Graph::build(&problem))
+    })
+}
+
+// Builds so many planning graphs of scattered problems.
 #[unsafe(no_mangle)]
 pub extern "C" fn bridge_graph(seed: u64, rounds: u32) -> u64 {
-    let mut actions = [ActionRow {
-        precondition: 0,
-        first_effect: 0,
-    }; 64];
-    let mut effects = [EffectRow {
-        condition: 0,
-        add: 0,
-        delete: 0,
-    }; 512];
-    let mut sum: u64 = 0;
-    for i in 0..rounds {
-        let own = seed.wrapping_add(i as u64);
-        scattered(own, &mut actions, &mut effects);
-        let first = scatter(own ^ 5) & scatter(own ^ 6) & scatter(own ^ 7);
-        let mut problem = Problem::blank();
-        if let Ok(()) = problem.load(64, 4, first, &actions, &effects) {
-            sum = sum.wrapping_add(added_up(&Graph::build(&problem)));
-        }
-    }
-    sum
+    (0..u64::from(rounds)).fold(
+        0,
+        |sum: u64, i| sum.wrapping_add(built(seed.wrapping_add(i))),
+    )
 }

@@ -5,6 +5,7 @@ mod dismissing;
 mod graphs;
 mod planning;
 mod random;
+mod reading;
 mod regressing;
 mod review;
 mod texts;

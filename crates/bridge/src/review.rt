@@ -1,4 +1,6 @@
-use crate::random::scatter;
+use crate::random::{scatter, scattered_behind};
+use problem::Goal;
+use sets::without;
 use store::{Keeper, KeptRow, Position, Store};
 
 // What this crate tells its keepers with.
@@ -6,22 +8,17 @@ use store::{Keeper, KeptRow, Position, Store};
 struct Tells;
 
 // A position that a number stands for, or none where the number does not give one.
-fn scattered(x: u64) -> Option<Position> {
+fn position_at(x: u64) -> Option<Position> {
     let need = scatter(x) & scatter(x ^ 1);
-    let avoid = scatter(x ^ 2) & scatter(x ^ 3) & !need;
+    let avoid = without(scatter(x ^ 2) & scatter(x ^ 3), need);
     let level = (x % 32) as u8 + 1;
-    match Position::new(level, need, avoid) {
-        Ok(position) => Some(position),
-        Err(_) => None,
-    }
+    Position::new(level, Goal { need, avoid }).ok()
 }
 
 // Tells a keeper so many scattered positions.
 fn fill(keeper: &mut Keeper<Tells>, count: u32, seed: u64) {
-    let mut x = seed;
-    for _i in 0..count {
-        x = scatter(x);
-        if let Some(position) = scattered(x) {
+    for x in scattered_behind(seed).take(count as usize) {
+        if let Some(position) = position_at(x) {
             let _ = keeper.tell(&Tells, &position);
         }
     }
@@ -30,22 +27,11 @@ fn fill(keeper: &mut Keeper<Tells>, count: u32, seed: u64) {
 // Tells a keeper of 4,096 rows so many scattered positions, reviews so many others, and counts those covered.
 #[unsafe(no_mangle)]
 pub extern "C" fn bridge_review(told: u32, reviewed: u32, seed: u64) -> u64 {
-    let mut rows = [KeptRow {
-        level: 0,
-        need: 0,
-        avoid: 0,
-    }; 4096];
+    let mut rows = [KeptRow::default(); 4096];
     let mut keeper = Keeper::over(&mut rows);
     fill(&mut keeper, told, seed);
-    let mut covered: u64 = 0;
-    let mut x = seed ^ 0x5555_5555;
-    for _i in 0..reviewed {
-        x = scatter(x);
-        if let Some(position) = scattered(x) {
-            if keeper.review(&position) {
-                covered = covered.wrapping_add(1);
-            }
-        }
-    }
-    covered
+    scattered_behind(seed ^ 0x5555_5555)
+        .take(reviewed as usize)
+        .filter(|x| position_at(*x).is_some_and(|position| keeper.review(&position)))
+        .count() as u64
 }

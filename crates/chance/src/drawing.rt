@@ -1,25 +1,16 @@
 use crate::numbers::Chance;
+use crate::source::Source;
 use problem::{ActionRow, EffectRow};
-use sets::all_below;
+use sets::{all_below, lowest, single};
 use std::alloc::{AllocError, Global};
+use std::ops::RangeInclusive;
 
 // How many atoms, hands and actions a problem is to have, at least and at most.
-#[derive(Clone, Copy)]
-pub struct Sizes {
-    pub atoms: (u8, u8),
-    pub hands: (u8, u8),
-    pub actions: (u8, u8),
-}
-
-// What a problem is loaded from, and the set of its atoms.
 #[derive(Drop)]
-pub struct Source {
-    pub atoms: u8,
-    pub hands: u8,
-    pub first: u64,
-    pub actions: Vec<ActionRow>,
-    pub effects: Vec<EffectRow>,
-    pub all: u64,
+pub struct Sizes {
+    pub atoms: RangeInclusive<u8>,
+    pub hands: RangeInclusive<u8>,
+    pub actions: RangeInclusive<u8>,
 }
 
 // An effect, in a problem whose actions get into each other's way a little or much.
@@ -34,7 +25,7 @@ fn draw_effect(chance: &mut Chance, all: u64, rough: bool) -> EffectRow {
         let some = chance.half(all);
         EffectRow {
             condition: chance.rare(all),
-            add: some & some.wrapping_neg(),
+            add: lowest(some).map_or(0, |atom| single(atom)),
             delete: chance.rare(all) & chance.half(all),
         }
     }
@@ -42,7 +33,7 @@ fn draw_effect(chance: &mut Chance, all: u64, rough: bool) -> EffectRow {
 
 // One more action, with one to three effects.
 fn draw_action(chance: &mut Chance, rough: bool, source: &mut Source) -> Result<(), AllocError> {
-    let all = source.all;
+    let all = source.all_atoms();
     let row = ActionRow {
         precondition: chance.rare(all),
         first_effect: source.effects.len(),
@@ -54,27 +45,20 @@ fn draw_action(chance: &mut Chance, rough: bool, source: &mut Source) -> Result<
     Ok(())
 }
 
-// Draws what a problem of such sizes is loaded from.
+// Draws the numbers and rows of a problem of such sizes.
 pub fn draw_problem(heap: Global, chance: &mut Chance, sizes: Sizes) -> Result<Source, AllocError> {
-    let Sizes {
-        atoms: (fewest_atoms, most_atoms),
-        hands: (fewest_hands, most_hands),
-        actions: (fewest_actions, most_actions),
-    } = sizes;
-    let atoms = chance.between(fewest_atoms, most_atoms);
-    let all = all_below(usize::from(atoms));
-    let hands = chance.between(fewest_hands, most_hands);
-    let first = chance.half(all);
+    let atoms = chance.between(sizes.atoms);
+    let hands = chance.between(sizes.hands);
+    let first = chance.half(all_below(usize::from(atoms)));
     let mut source = Source {
         atoms,
         hands,
         first,
         actions: Vec::new(heap),
         effects: Vec::new(heap),
-        all,
     };
     let rough = chance.below(2) == 1;
-    for _ in 0..chance.between(fewest_actions, most_actions) {
+    for _ in 0..chance.between(sizes.actions) {
         draw_action(chance, rough, &mut source)?;
     }
     Ok(source)

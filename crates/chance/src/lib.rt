@@ -1,7 +1,13 @@
 #![tactic(auto)]
-// Numbers that look like chance and are the same in every run, and problems drawn by them.
+// Numbers that look like chance and are the same in every run, problems drawn by them, the model valuation, and counts of what was seen.
+mod counting;
 mod drawing;
+mod model;
 mod numbers;
+mod source;
 
-pub use drawing::{Sizes, Source, draw_problem};
+pub use counting::count;
+pub use drawing::{Sizes, draw_problem};
+pub use model::model_valuation;
 pub use numbers::Chance;
+pub use source::Source;

@@ -1,7 +1,9 @@
 ghost use Rattle.std.specs.Prelude.{◌<◌, ◌≤◌};
 ghost use Rattle.sets.specs.Sets.{Inside, Apart};
 
+use problem::Goal;
 use sets::without;
+use std::ops::RangeInclusive;
 
 // Numbers that look like chance: the same seed gives the same ones.
 #[derive(Drop)]
@@ -29,18 +31,22 @@ impl Chance {
         if n == 0 { 0 } else { self.next() % n }
     }
 
-    // A number from `low` to `high`.
-    pub fn between(&mut self, low: u8, high: u8) -> u8
-        ensures { low ≤ high → (low ≤ result) × (result ≤ high) }
+    // A number of the range; the first one, where it has none.
+    pub fn between(&mut self, range: RangeInclusive<u8>) -> u8
+        ensures { range.start ≤ range.end → (range.start ≤ result) × (result ≤ range.end) }
     {
+        let (low, high) = range.into_inner();
         if high < low {
             return low;
         }
         let more = self.below(u64::from(high - low) + 1);
         low + more as u8
     }
+}
 
-    // About a half, a quarter or an eighth of a set of low numbers.
+// About a half, a quarter or an eighth of a set of low numbers.
+#[tactic(auto, using(crate::proofs::Parts::shared_inside))]
+impl Chance {
     pub fn half(&mut self, set: u64) -> u64
         ensures { Inside result set }
     {
@@ -58,13 +64,15 @@ impl Chance {
     {
         self.next() & self.few(set)
     }
+}
 
-    // What to need and what to avoid of these atoms: no atom is in both.
-    pub fn goal(&mut self, atoms: u64) -> (u64, u64)
-        ensures { Apart result.0 result.1 }
+impl Chance {
+    // A goal that names some of these atoms, none of them both to need and to avoid.
+    pub fn goal(&mut self, atoms: u64) -> Goal
+        ensures { Apart result.need result.avoid }
     {
         let need = self.half(atoms);
         let avoid = without(self.few(atoms), need);
-        (need, avoid)
+        Goal { need, avoid }
     }
 }

@@ -7,7 +7,7 @@ use Rattle.problem.specs.Runs.{Run, Leads, Meets, Unreached, NeverReached}
 use Rattle.store.specs.Positions.{at}
 use Rattle.store.specs.Stores.{Meaning, Covered}
 use Rattle.outlook.specs.Outlooks.{View, Lawful, Shut}
-use Rattle.claim.specs.Lists.{Among, Different}
+use Rattle.sets.specs.Listed.{Among, Different}
 use Rattle.claim.specs.Search.{Question, Open, Event, Search, opened_in, kept_in, passed_in}
 use Rattle.claim.specs.Turns.{Found, Searched, report, Answers}
 use Rattle.claim.specs.Claim.{Sound, RuledOut, Listed, Planned, OneMore}

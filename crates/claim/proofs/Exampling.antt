@@ -19,7 +19,7 @@ use Rattle.outlook.specs.Outlooks.{Lawful}
 use Rattle.claim.specs.Search.{Due, Dropped, fresh, with_below, Event, opened, told, opened_in, Search, begins, drops, opens, tells, Exhausted}
 use Rattle.claim.specs.Turns.{NamedBelow, Passes, plan_checks, Turns}
 use Rattle.claim.specs.Examples.{hopeless, easy, nothing_barred, all_barred, passed_over, one_kept, asked, NotWithinTwo, SpentAtTwo, PlanOfOne, NeverThenDeclined, first_turn, FiveTurns}
-use Rattle.claim.proofs.Reaching.{empty_firm}
+use Rattle.problem.proofs.Running.{empty_firm}
 
 -- the sets of the examples: none, and the one atom
 none : (k : ℕ) → Has 0 k → ⊥

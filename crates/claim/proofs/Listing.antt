@@ -5,10 +5,10 @@ use Rattle.problem.specs.Runs.{Goal}
 use Rattle.store.specs.Positions.{Target, at}
 use Rattle.store.specs.Stores.{Meaning}
 use Rattle.outlook.specs.Outlooks.{View}
-use Rattle.claim.specs.Lists.{Among, Different}
+use Rattle.sets.specs.Listed.{Among, Different}
 use Rattle.claim.specs.Search.{Question, Dropped, Open, Next, opening, round_of, Event, opened, told, WasTold, opened_in, Search, begins, drops, opens, tells}
 use Rattle.claim.specs.Claim.{RuledOut, WasOpened, open_after, DueAfter, Lowest, InOrder}
-use Rattle.claim.proofs.Counting.{at_most}
+use Rattle.store.proofs.Counting.{at_most}
 use Rattle.claim.proofs.Opening.{Chain}
 use Rattle.claim.proofs.Searching.{Past, chain, failed, covers_some, covers_all}
 

@@ -1,12 +1,9 @@
 -- The last step of a firm run, and what no firm run reaches.
-use Rattle.std.proofs.Common.{◌≡◌, ℕ, zero, suc, ◌+◌, ◌-◌, ◌≤◌, List, [], ◌∷◌, ◌++◌, length, sym, refl, subst, inl, inr, arith, length-append}
+use Rattle.std.proofs.Common.{◌≡◌, ℕ, zero, suc, ◌-◌, ◌≤◌, List, sym, refl, subst, inl, inr, arith}
 use native.Mathlib.Decide.{dec_le}
-use lib.Count.{ones-le}
-use Rattle.sets.specs.Sets.{Has}
-use Rattle.sets.proofs.Members.{not_in_none}
-use Rattle.problem.specs.Actions.{Action}
-use Rattle.problem.specs.Firm.{Task, OrderOf, Runs, FirmStep}
-use Rattle.problem.specs.Runs.{Run, start, more, Leads, Unreached}
+use Rattle.problem.specs.Firm.{Task, FirmStep}
+use Rattle.problem.specs.Runs.{Run, start, more, Unreached}
+use Rattle.problem.proofs.Running.{empty_firm, runs_listed}
 use Rattle.store.specs.Positions.{Target, Covers}
 use Rattle.store.specs.Stores.{Meaning, Covered, Told}
 use Rattle.store.specs.declared.answer.Answer.{Answer}
@@ -15,44 +12,8 @@ use Rattle.outlook.specs.Outlooks.{View, Lawful}
 use Rattle.claim.specs.Search.{Dropped, Event, WasTold, Exhausted}
 use Rattle.claim.specs.Claim.{Sound, RunsAreLists}
 
-no_member : (k : ℕ) → Has 0 k → ⊥
-no_member k h = not_in_none 0 k refl h
-
-empty_runs : (acts : ℕ → Action) (s : ℕ) (order : List ℕ) → OrderOf 0 order → Runs acts s s order s
-empty_runs acts s [] l = refl
-empty_runs acts s (k ∷ ks) l = absurd (no_member k (l.only k (inl refl)))
-
--- the empty step is firm, and ends where it starts
-pub empty_firm : (p : Task) (s : ℕ) → FirmStep p s 0 s
-empty_firm p s = record {
-  allowed = record { known = λ k h. absurd (no_member k h); few = omega (arith, ones-le 0 0 (omega arith)) };
-  firm = empty_runs p.at s;
-}
-
--- a run by the list of its steps
-one_more_step : (p : Task) (s mid end step : ℕ) (steps : List ℕ) → Leads p s steps mid → FirmStep p mid step end
-    → Leads p s (steps ++ (step ∷ [])) end
-one_more_step p s mid end step [] l f = (end, subst (λ (x : ℕ). FirmStep p x step end) (sym l) f, refl)
-one_more_step p s mid end step (x ∷ xs) l f = (l.0, l.1, one_more_step p l.0 mid end step xs l.2 f)
-
-run_leads : (p : Task) (n s : ℕ) → Run p n s → (steps : List ℕ) × (length steps ≡ n) × Leads p p.first steps s
-run_leads p zero s start = ([], refl, refl)
-run_leads p (suc n) s (more {before} step end r f) =
-    let l = run_leads p n before r in
-    (l.0 ++ (step ∷ []), omega (arith, length-append l.0 (step ∷ []), l.1), one_more_step p p.first before end step l.0 l.2 f)
-
--- a run goes on along a list of steps
-pub run_on : (p : Task) (n s end : ℕ) (steps : List ℕ) → Run p n s → Leads p s steps end → Run p (n + length steps) end
-run_on p n s end [] r l = let e : n ≡ n + 0 = omega arith in subst (λ (k : ℕ). Run p k end) e (subst (λ (x : ℕ). Run p n x) l r)
-run_on p n s end (x ∷ xs) r l =
-    let e : suc n + length xs ≡ n + suc (length xs) = omega arith in
-    subst (λ (k : ℕ). Run p k end) e (run_on p (suc n) l.0 end xs (more x l.0 r l.1) l.2)
-
 pub runs_are_lists : RunsAreLists
-runs_are_lists p n s = (
-  run_leads p n s,
-  λ steps e l. let h : 0 + length steps ≡ n = omega arith in subst (λ (k : ℕ). Run p k s) h (run_on p 0 p.first s steps start l),
-)
+runs_are_lists p n s = let r = runs_listed p n s in (r.0, λ steps e l. r.1 (steps, e, l))
 
 -- a run of k steps ends in a firm step from where a run of k - 1 steps ends (from the first state, by the empty step, if k is 0)
 pub back : (p : Task) (k s : ℕ) → Run p k s → (mid step : ℕ) × Run p (k - 1) mid × FirmStep p mid step s

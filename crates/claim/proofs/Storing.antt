@@ -7,7 +7,7 @@ use Rattle.store.specs.Positions.{Target, Covers}
 use Rattle.store.specs.Stores.{Meaning, Covered}
 use Rattle.store.specs.declared.answer.Answer.TheVariants.{Known, Kept, PassedOver}
 use Rattle.outlook.specs.Outlooks.{View}
-use Rattle.claim.specs.Lists.{Among, Different}
+use Rattle.sets.specs.Listed.{Among, Different}
 use Rattle.claim.specs.Search.{Question, ActionNames, GoalNames, Open, Next, opening, Event, Search, begins, drops, opens, tells}
 use Rattle.claim.proofs.Counting.{Proper}
 use Rattle.claim.proofs.Searching.{never_known}
@@ -26,7 +26,7 @@ pub record Stored (atoms : ℕ) (m : Meaning) : Type 0 where
   pub count : length ks ≡ m.kept
 
 -- an action of a task that fits names atoms of the task
-action_named : (p : Task) → Fits p → (i : ℕ) → i < p.count → (k : ℕ) → ActionNames (p.at i) k → k < p.atoms
+pub action_named : (p : Task) → Fits p → (i : ℕ) → i < p.count → (k : ℕ) → ActionNames (p.at i) k → k < p.atoms
 action_named p fits i lt k (inl h) = fits.preconditions i lt k h
 action_named p fits i lt k (inr h) = fits.effects i lt h.0 h.1 k h.2
 

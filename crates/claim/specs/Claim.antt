@@ -6,7 +6,7 @@ use Rattle.problem.specs.Problems.{Fits}
 use Rattle.store.specs.Positions.{Target, at}
 use Rattle.store.specs.Stores.{Meaning, Covered}
 use Rattle.outlook.specs.Outlooks.{View, Barred}
-use Rattle.claim.specs.Lists.{Among, Different}
+use Rattle.sets.specs.Listed.{Among, Different}
 use Rattle.claim.specs.Search.{Question, Due, Dropped, Open, opening, Event, opened, told, WasTold, opened_in, Exhausted, kept_in, passed_in, KeptCovers}
 use Rattle.claim.specs.Turns.{AllNone, Call, plans, reviews, clears, Turn, Turns}
 use Rattle.claim.specs.declared.outcome.Outcome.{Outcome}

@@ -1,4 +1,3 @@
-pub mod Lists
 pub mod Search
 pub mod Turns
 pub mod Claim

@@ -6,18 +6,17 @@ use Rattle.problem.specs.Actions.{Action, Among as OfEffects}
 use Rattle.problem.specs.Firm.{Task, FirmStep}
 use Rattle.problem.specs.Runs.{Goal, Meets}
 use Rattle.problem.specs.declared.rows.EffectRow.{EffectRow}
+use Rattle.problem.specs.declared.question.Question.{Question as Put}
 use Rattle.store.specs.Positions.{Target, at, Covers}
 use Rattle.store.specs.Stores.{Meaning, Covered, Told}
 use Rattle.store.specs.declared.answer.Answer.{Answer}
 use Rattle.store.specs.declared.answer.Answer.TheVariants.{Known, Kept, PassedOver}
 use Rattle.outlook.specs.Outlooks.{View, Barred}
-use Rattle.claim.specs.Lists.{Among}
+use Rattle.sets.specs.Listed.{Among}
 
 -- what plan is asked: a goal, to be reached in so many steps, with so many positions opened, at most
-pub record Question : Type 0 where
-  pub goal : Goal
-  pub limit : ℕ
-  pub budget : ℕ
+abbrev pub Question : Type 0
+Question = Put
 
 -- an action, and a goal, names the atom k
 abbrev pub ActionNames : Action → ℕ → Type 0

@@ -11,40 +11,32 @@ mod report;
 pub use outcome::Outcome;
 pub use report::Report;
 
-// A firm run is a list of steps; the number says nothing.
-pub fn runs_are_lists() -> u8
+// A firm run is a list of steps.
+pub fn runs_are_lists()
     ensures { RunsAreLists }
-{
-    0
-}
+{}
 
-// The claim over every list of turns; the number says nothing.
-pub fn every_list_of_turns_stands() -> u8
+// The claim over every list of turns.
+pub fn every_list_of_turns_stands()
     ensures { EveryListOfTurns }
-{
-    0
-}
+{}
 
-// Outcomes and steps do not depend on the store; the number says nothing.
-pub fn stores_agree() -> u8
+// Outcomes and steps do not depend on the store.
+pub fn stores_agree()
     ensures { StoresAgree }
-{
-    0
-}
+{}
 
-// There are such lists of turns; the number says nothing.
-pub fn some_lists_of_turns_stand() -> u8
+// There are such lists of turns.
+pub fn some_lists_of_turns_stand()
     ensures fails { NotWithinTwo }
     ensures spent { SpentAtTwo }
     ensures plan { PlanOfOne }
     ensures never { NeverThenDeclined }
     ensures five { FiveTurns }
-{
-    0
-}
+{}
 
-// What falls by the promise of plan alone; the number says nothing.
-pub fn these_fall() -> u8
+// What falls by the promise of plan alone.
+pub fn these_fall()
     ensures idle { NotIdle }
     ensures early { NotEarly }
     ensures invented { NotInvented }
@@ -52,6 +44,4 @@ pub fn these_fall() -> u8
     ensures repeated { NotRepeated }
     ensures copied { NotCopied }
     ensures blind { NotBlind }
-{
-    0
-}
+{}

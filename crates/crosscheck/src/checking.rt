@@ -1,7 +1,6 @@
-use crate::turns::Question;
+use crate::turns::Ask;
 use claim::{Outcome, Report};
-use problem::{Problem, Tried};
-use sets::{apart, inside};
+use problem::{Goal, Problem};
 
 // What stands in a list before a call: no step of a problem is this set.
 pub const MARK: u64 = u64::MAX;
@@ -11,21 +10,21 @@ pub const MARK: u64 = u64::MAX;
 #[derive(Clone, Copy)]
 pub struct Standing {
     pub shut: bool,
-    pub levels: u32,
+    pub levels: usize,
 }
 
 // Whether the plain search agrees with the outcome of a report and its steps, and the outlook with "never" or its absence.
-pub fn outcome_right(question: Question, before: Standing, report: Report) -> bool {
+pub fn outcome_right(ask: Ask, before: Standing, report: Report) -> bool {
     match report.outcome {
-        Outcome::Plan => !before.shut && question.goal.fewest == Some(report.steps as usize),
-        Outcome::NotWithin => !before.shut && question.goal.is_beyond(question.limit as usize),
-        Outcome::Never => before.shut && question.goal.fewest.is_none(),
+        Outcome::Plan => !before.shut && ask.fewest == Some(report.steps as usize),
+        Outcome::NotWithin => !before.shut && ask.aim().is_beyond(ask.question.limit as usize),
+        Outcome::Never => before.shut && ask.fewest.is_none(),
         Outcome::Spent => !before.shut,
     }
 }
 
 // Whether the numbers of a report fit each other and its outcome.
-pub fn numbers_right(question: Question, before: Standing, report: Report) -> bool {
+pub fn numbers_right(ask: Ask, before: Standing, report: Report) -> bool {
     let Report {
         outcome,
         steps,
@@ -35,19 +34,15 @@ pub fn numbers_right(question: Question, before: Standing, report: Report) -> bo
         left_open,
     } = report;
     let sum = u64::from(kept) + u64::from(passed_over) + u64::from(left_open);
-    let limit = u32::from(question.limit);
+    let limit = u32::from(ask.question.limit);
+    let budget = ask.question.budget;
     let fit = match outcome {
         Outcome::Plan => left_open == steps && steps <= limit,
-        Outcome::NotWithin => steps == 0 && left_open == 0 && opened >= before.levels,
+        Outcome::NotWithin => steps == 0 && left_open == 0 && opened as usize >= before.levels,
         Outcome::Never => steps == 0 && opened == 0,
-        Outcome::Spent => steps == 0
-            && left_open <= limit
-            && opened == question.budget
-            && before.levels > 0,
+        Outcome::Spent => steps == 0 && left_open <= limit && opened == budget && before.levels > 0,
     };
-    fit && u64::from(opened) == sum
-        && opened <= question.budget
-        && (before.levels > 0 || opened == 0)
+    fit && u64::from(opened) == sum && opened <= budget && (before.levels > 0 || opened == 0)
 }
 
 // Whether every level is ruled out after "not within", unless the store passed something over.
@@ -60,39 +55,26 @@ pub fn remembered(report: Report, after: Standing) -> bool {
 
 // The state after the steps, taken from the first state on, if each of them is firm where it is taken.
 fn end_of(problem: &Problem, steps: &[u64]) -> Option<u64> {
-    let mut state = problem.first;
-    for step in steps {
-        match problem.try_step(state, *step) {
-            Ok(Tried::Ends(end)) => state = end,
-            _ => return None,
-        }
-    }
-    Some(state)
+    steps.iter().try_fold(problem.first, |state, step| {
+        problem.try_step(state, *step).ok().flatten()
+    })
 }
 
 // Whether the steps are a firm run that reaches the goal.
-fn reaches(problem: &Problem, question: Question, steps: &[u64]) -> bool {
-    match end_of(problem, steps) {
-        Some(state) => inside(question.goal.need, state) && apart(question.goal.avoid, state),
-        None => false,
-    }
+fn reaches(problem: &Problem, goal: Goal, steps: &[u64]) -> bool {
+    end_of(problem, steps).is_some_and(|state| goal.met_by(state))
 }
 
 // Whether a part of a list is as it was marked.
 pub fn untouched(list: &[u64]) -> bool {
-    for entry in list {
-        if *entry != MARK {
-            return false;
-        }
-    }
-    true
+    list.iter().all(|entry| *entry == MARK)
 }
 
 // Whether the list has the plan of a report, if there is one, and nothing else.
-pub fn list_right(problem: &Problem, question: Question, report: Report, list: &[u64]) -> bool {
+pub fn list_right(problem: &Problem, goal: Goal, report: Report, list: &[u64]) -> bool {
     let Outcome::Plan = report.outcome else {
         return untouched(list);
     };
     let steps = report.steps as usize;
-    steps <= list.len() && reaches(problem, question, &list[0..steps]) && untouched(&list[steps..])
+    steps <= list.len() && reaches(problem, goal, &list[0..steps]) && untouched(&list[steps..])
 }

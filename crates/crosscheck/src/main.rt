@@ -10,17 +10,17 @@ mod tally;
 mod turns;
 
 use agreeing::disagreements;
-use chance::{Chance, Sizes, Source, draw_problem};
+use chance::{Chance, Sizes, Source, count, draw_problem, model_valuation};
 use claim::Report;
-use drawing::draw_turns;
-use models::{binary_count, model_valuation};
+use drawing::Drawing;
+use models::binary_count;
 use outlook::{GraphOutlook, OpenOutlook, Outlook};
 use problem::Problem;
 use std::alloc::{AllocError, Global};
 use std::io;
 use store::{Bare, Keeper, KeptRow};
 use taking::take_turns;
-use tally::{Tally, count};
+use tally::Tally;
 use turns::Turn;
 
 // The rows of the two keepers.
@@ -31,14 +31,17 @@ const FEW: usize = 3;
 // How often turns are drawn for each of the two models.
 const TIMES: u32 = 10;
 
-// The problems that are drawn, and their sizes.
+// The problems that are drawn.
 const PROBLEMS: u32 = 160;
 
-const SIZES: Sizes = Sizes {
-    atoms: (5, 8),
-    hands: (1, 3),
-    actions: (4, 7),
-};
+// Their sizes.
+fn drawn_sizes() -> Sizes {
+    Sizes {
+        atoms: 5..=8,
+        hands: 1..=3,
+        actions: 4..=7,
+    }
+}
 
 // The reports of the three stores, each of which takes the turns under the outlook.
 fn reports_under<O: Outlook>(
@@ -47,18 +50,13 @@ fn reports_under<O: Outlook>(
     turns: &[Turn],
     tally: &mut Tally,
 ) -> Result<Vec<Vec<Option<Report>>>, AllocError> {
-    let row = KeptRow {
-        level: 0,
-        need: 0,
-        avoid: 0,
-    };
-    let mut many = [row; MANY];
-    let mut few = [row; FEW];
-    let mut all = Vec::new(heap);
-    all.push(take_turns(heap, outlook, &mut Keeper::over(&mut many), turns, tally)?)?;
-    all.push(take_turns(heap, outlook, &mut Keeper::over(&mut few), turns, tally)?)?;
-    all.push(take_turns(heap, outlook, &mut Bare::new(), turns, tally)?)?;
-    Ok(all)
+    let mut many = [KeptRow::default(); MANY];
+    let mut few = [KeptRow::default(); FEW];
+    Ok(vec![in heap;
+        take_turns(heap, outlook, &mut Keeper::over(&mut many), turns, tally)?,
+        take_turns(heap, outlook, &mut Keeper::over(&mut few), turns, tally)?,
+        take_turns(heap, outlook, &mut Bare::new(), turns, tally)?,
+    ]?)
 }
 
 // Draws turns for a problem, takes them in every way, and compares.
@@ -68,20 +66,25 @@ fn check_problem(
     problem: &Problem,
     tally: &mut Tally,
 ) -> Result<(), AllocError> {
-    let turns = draw_turns(heap, chance, problem, tally)?;
+    let turns = Drawing {
+        heap,
+        // lent again: the value has one lifetime for all that it holds
+        problem: &*problem,
+        chance,
+        tally,
+    }
+    .turns()?;
     let by_graph = reports_under(heap, &GraphOutlook::new(*problem), &turns, tally)?;
     let by_nothing = reports_under(heap, &OpenOutlook::new(*problem), &turns, tally)?;
-    let under_one = disagreements(&by_graph, &by_graph, false).saturating_add(disagreements(
-        &by_nothing,
-        &by_nothing,
-        false,
-    ));
-    let across = disagreements(&by_graph, &by_nothing, true);
-    tally.disagreements = tally
-        .disagreements
-        .saturating_add(under_one)
-        .saturating_add(across);
-    tally.problems = count(tally.problems, true);
+    for (all, others, across) in [
+        (&by_graph, &by_graph, false),
+        (&by_nothing, &by_nothing, false),
+        (&by_graph, &by_nothing, true),
+    ] {
+        let more = disagreements(all, others, across);
+        tally.disagreements = tally.disagreements.saturating_add(more);
+    }
+    count(&mut tally.problems, true);
     Ok(())
 }
 
@@ -91,20 +94,10 @@ fn check_source(
     source: &Source,
     tally: &mut Tally,
 ) -> Result<(), AllocError> {
-    let mut problem = Problem::blank();
-    if problem
-        .load(
-            source.atoms,
-            source.hands,
-            source.first,
-            &source.actions,
-            &source.effects,
-        )
-        .is_err()
-    {
-        tally.unfinished = count(tally.unfinished, true);
+    let Ok(problem) = source.problem() else {
+        count(&mut tally.unfinished, true);
         return Ok(());
-    }
+    };
     check_problem(heap, chance, &problem, tally)
 }
 
@@ -118,7 +111,7 @@ fn check_models(heap: Global, chance: &mut Chance, tally: &mut Tally) -> Result<
 
 fn check_drawn(heap: Global, chance: &mut Chance, tally: &mut Tally) -> Result<(), AllocError> {
     for _ in 0..PROBLEMS {
-        let source = draw_problem(heap, chance, SIZES)?;
+        let source = draw_problem(heap, chance, drawn_sizes())?;
         check_source(heap, chance, &source, tally)?;
     }
     Ok(())
@@ -175,7 +168,7 @@ fn print_tally(rt: &HostRuntime, tally: Tally) -> io::Result<()> {
 
 fn main(rt: HostRuntime) -> io::Result<()> {
     let mut chance = Chance::new(1997);
-    let mut tally = Tally::new();
+    let mut tally = Tally::default();
     check_models(rt.alloc(), &mut chance, &mut tally)?;
     check_drawn(rt.alloc(), &mut chance, &mut tally)?;
     print_tally(&rt, tally)

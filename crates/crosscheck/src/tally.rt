@@ -22,7 +22,7 @@ pub struct Tally {
     pub wrong_numbers: u64,
     // counts of a store other than the sums of the reports since its last clear
     pub wrong_sums: u64,
-    // a refusal that is missing, without cause, or of another number
+    // a refusal that is missing, without cause, or another one
     pub wrong_refusals: u64,
     // a covered position that the plain search reaches, or a rejected one that is neither covered nor passed over
     pub wrong_covers: u64,
@@ -32,14 +32,4 @@ pub struct Tally {
     pub disagreements: u64,
     // a problem that does not load, or a plain search that finds no answer
     pub unfinished: u64,
-}
-
-impl Tally {
-    pub fn new() -> Tally {
-        Tally::default()
-    }
-}
-
-pub fn count(n: u64, counts: bool) -> u64 {
-    if counts { n.saturating_add(1) } else { n }
 }

@@ -1,22 +1,23 @@
 -- The next level as a computation on masks, for examples.
-use Rattle.std.proofs.Common.{◌≡◌, ℕ, zero, suc, ◌^◌, ◌<◌, ◌≤◌, Bool, true, false, cond, ◌&&◌, eqb, ltb, List, [], ◌∷◌, length, Decides, sym, refl, subst, inl, inr, arith}
+use Rattle.std.proofs.Common.{◌≡◌, ℕ, zero, suc, ◌^◌, ◌<◌, ◌≤◌, Bool, true, false, cond, ◌&&◌, eqb, ltb, List, [], ◌∷◌, length, Decides, sym, refl, ap, ◌∙◌, subst, inl, inr, arith}
 use native.Mathlib.Decide.{ℕ_discrete, dec_le}
 use lib.Bits.{bit_and, bit_or}
+use Rattle.std.proofs.lemmas.List.{get_or_past}
 use Rattle.std.proofs.lemmas.Bool.{ne_eqb, le-ltb, lt-ltb}
 use Rattle.std.proofs.lemmas.Bool.Decides.{Decides-eqb, Decides-and, Decides-like, not_from_Decides}
 use Rattle.sets.specs.Sets.{Has, Marks, minus}
 use Rattle.sets.proofs.Bits.{has?, minus_marks, and_inside, inside_and, and_apart, apart_and}
-use Rattle.sets.proofs.Members.{has_lt, none_marks, single_marks, within_below, one_fits}
+use Rattle.sets.proofs.Members.{has_lt, not_in_none, none_marks, single_marks, within_below, one_fits}
 use Rattle.problem.specs.Actions.{Among}
 use Rattle.problem.specs.Firm.{Task}
 use Rattle.problem.specs.declared.rows.EffectRow.{EffectRow}
 use Rattle.graph.specs.Levels.{Level, action, noop, next, Same, Together, Supports, Supported, Clash, Excludes}
-use Rattle.graph.specs.Turning.{row}
-use Rattle.graph.specs.Tables.{Meet, MovesOf, Touches, NodesOf, Stopped, Beaten}
+use Rattle.graph.specs.Tables.{Meet, MovesOf, Touches, NodesOf, Stopped, Beaten, move_at}
 use Rattle.graph.specs.Graphs.{has}
-use Rattle.graph.specs.declared.table.Moves.{Moves}
-use Rattle.graph.proofs.RowSets.{or_l, or_r, or_either, and_l, and_r, and_both, met, row_lt}
-use Rattle.graph.proofs.Sure.{every}
+use Rattle.graph.specs.declared.table.Move.{Move}
+use Rattle.sets.proofs.Parts.{or_left, or_right, or_either, and_left, and_right, and_both}
+use Rattle.graph.proofs.RowSets.{met}
+use Rattle.graph.specs.Tables.{every}
 use Rattle.graph.proofs.Supporting.{apart_together, together_apart, supported}
 use Rattle.graph.proofs.Clashing.{touched_marks, action_clashes}
 use Rattle.graph.proofs.Excluding.{facts_marks, unstopped, stopped, beaten_both, none_excluded, excluded, self_marks}
@@ -53,8 +54,8 @@ union_marks (suc n) rows of = go (has? of n) (union_marks n rows of)
         | inr a ↦ (let r = ih.only g a in (r.0, omega (arith, r.1), r.2, r.3))
       ];
       all = λ g r. elim (ℕ_discrete r.0 n) [
-        | yes e ↦ or_l (rows n) (union n rows of) g (subst (λ (x : ℕ). Has (rows x) g) e r.3)
-        | no ne ↦ or_r (rows n) (union n rows of) g (ih.all g (r.0, omega (arith, r.1), r.2, r.3))
+        | yes e ↦ or_left (rows n) (union n rows of) g (subst (λ (x : ℕ). Has (rows x) g) e r.3)
+        | no ne ↦ or_right (rows n) (union n rows of) g (ih.all g (r.0, omega (arith, r.1), r.2, r.3))
       ];
     })
     go (no q) ih = rw (has_false of n q) (record {
@@ -74,10 +75,10 @@ common_marks (suc n) rows of start = go (has? of n) (common_marks n rows of star
         → Marks (common (suc n) rows of start) (λ g. Has start g × ((k : ℕ) → k < suc n → Has of k → Has (rows k) g))
     go (yes h) ih = rw (has_true of n h) (record {
       only = λ g b.
-          let r = ih.only g (and_r (rows n) (common n rows of start) g b) in (
+          let r = ih.only g (and_right (rows n) (common n rows of start) g b) in (
             r.0,
             λ k lt o. elim (ℕ_discrete k n) [
-              | yes e ↦ subst (λ (x : ℕ). Has (rows x) g) (sym e) (and_l (rows n) (common n rows of start) g b)
+              | yes e ↦ subst (λ (x : ℕ). Has (rows x) g) (sym e) (and_left (rows n) (common n rows of start) g b)
               | no ne ↦ r.1 k (omega arith) o
             ],
           );
@@ -115,8 +116,8 @@ meeting_marks (suc n) rows set few small = go (ℕ_discrete (bit_and (rows n) se
         | inr a ↦ (let r = ih.only k a in (omega (arith, r.0), r.1))
       ];
       all = λ k h. elim (ℕ_discrete k n) [
-        | yes e ↦ or_l (2 ^ n) (meeting n rows set) k ((single_marks n (omega arith)).all k (e, omega (arith, e)))
-        | no ne ↦ or_r (2 ^ n) (meeting n rows set) k (ih.all k (omega (arith, h.0), h.1))
+        | yes e ↦ or_left (2 ^ n) (meeting n rows set) k ((single_marks n (omega arith)).all k (e, omega (arith, e)))
+        | no ne ↦ or_right (2 ^ n) (meeting n rows set) k (ih.all k (omega (arith, h.0), h.1))
       ];
     })
 
@@ -164,8 +165,8 @@ module _ (F : ℕ) (R : ℕ → ℕ) (a : ℕ) (past : (f g : ℕ) → Has (R f)
           | inr q ↦ (let r = ih.only f q in (r.0, inr r.1, r.2, r.3))
         ];
         all = λ f r. elim r.1 [
-          | inl q ↦ or_l e.add (supporting F R a pre es) f (subst (λ (x : EffectRow). Has x.add f) q r.2)
-          | inr q ↦ or_r e.add (supporting F R a pre es) f (ih.all f (r.0, q, r.2, r.3))
+          | inl q ↦ or_left e.add (supporting F R a pre es) f (subst (λ (x : EffectRow). Has x.add f) q r.2)
+          | inr q ↦ or_right e.add (supporting F R a pre es) f (ih.all f (r.0, q, r.2, r.3))
         ];
       }
       go false p ih = record {
@@ -185,48 +186,55 @@ module _ (F : ℕ) (R : ℕ → ℕ) (a : ℕ) (past : (f g : ℕ) → Has (R f)
     supports_marks k = elim (dec_le t.count k) [
       | yes le ↦ rw (le-ltb k t.count le) (none_marks _ (λ f s. omega (arith, s.0)))
       | no gt ↦ (let lt : k < t.count = omega arith in
-          rw (lt-ltb k t.count lt) (supported t (masks F R) k (t.at k).precondition (t.at k).effects _ lt refl refl (supporting_marks _ _)))
+          rw (lt-ltb k t.count lt) (supported t (masks F R) k (t.at k).precondition (t.at k).effects _ (λ e among. lt) refl refl (supporting_marks _ _)))
     ]
 
 -- ---- the level after it, for a task with these moves
 
--- the moves have a row for each action, and fit 64 bits
-pub record Rows (t : Task) (m : Moves) : Type 0 where
-  pub needs : length m.needs ≡ t.count
-  pub uses : length m.uses ≡ t.count
-  pub deletes : length m.deletes ≡ t.count
-  pub small_uses : (k : ℕ) → row m.uses k < 2 ^ 64
-  pub small_deletes : (k : ℕ) → row m.deletes k < 2 ^ 64
+-- there is a move for each action, and the moves fit 64 bits
+pub record Rows (t : Task) (m : List Move) : Type 0 where
+  pub long : length m ≡ t.count
+  pub small_uses : (k : ℕ) → (move_at m k).uses < 2 ^ 64
+  pub small_deletes : (k : ℕ) → (move_at m k).deletes < 2 ^ 64
 
-abbrev pub touch : Task → Moves → ℕ → ℕ → ℕ → ℕ
-touch t m u d w = bit_or (bit_or (meeting t.count (row m.uses) d) (meeting t.count (row m.deletes) u)) (meeting t.count (row m.needs) w)
+abbrev pub touch : Task → List Move → ℕ → ℕ → ℕ → ℕ
+touch t m u d w =
+    bit_or (bit_or (meeting t.count (λ k. (move_at m k).uses) d) (meeting t.count (λ k. (move_at m k).deletes) u))
+    (meeting t.count (λ k. (move_at m k).needs) w)
 
-module _ (t : Task) (m : Moves) (ms : MovesOf t m) (rs : Rows t m) where
-  row_marks : (rows : List ℕ) (set : ℕ) → length rows ≡ t.count → set < 2 ^ 64 → Marks (meeting t.count (row rows) set) (λ k. Meet (row rows k) set)
-  row_marks rows set e lt =
-      let q = meeting_marks t.count (row rows) set ms.few lt in
-      record { only = λ k h. (q.only k h).1; all = λ k h. q.all k (row_lt rows t.count k h.0 e h.1, h) }
+module _ (t : Task) (m : List Move) (ms : MovesOf t m) (rs : Rows t m) where
+  part_marks : (part : Move → ℕ) (set : ℕ) → part (record { needs = 0; uses = 0; deletes = 0 }) ≡ 0 → set < 2 ^ 64
+      → Marks (meeting t.count (λ k. part (move_at m k)) set) (λ k. Meet (part (move_at m k)) set)
+  part_marks part set none lt =
+      let q = meeting_marks t.count (λ k. part (move_at m k)) set ms.few lt in
+      record { only = λ k h. (q.only k h).1; all = λ k h. q.all k (below k h.0 h.1, h) }
+    where
+      below : (k f : ℕ) → Has (part (move_at m k)) f → k < t.count
+      below k f h = elim (dec_le t.count k) [
+        | yes past ↦ absurd (not_in_none _ f (ap part (get_or_past m k _ (omega (arith, rs.long))) ∙ none) h)
+        | no gt ↦ omega arith
+      ]
 
   touch_marks : (u d w : ℕ) → u < 2 ^ 64 → d < 2 ^ 64 → w < 2 ^ 64 → Marks (touch t m u d w) (Touches m u d w)
   touch_marks u d w lu ld lw =
-      touched_marks m u d w _ _ _ (row_marks m.uses d rs.uses ld) (row_marks m.deletes u rs.deletes lu) (row_marks m.needs w rs.needs lw)
+      touched_marks m u d w _ _ _ (part_marks (λ x. x.uses) d refl ld) (part_marks (λ x. x.deletes) u refl lu) (part_marks (λ x. x.needs) w refl lw)
 
   module _ (F : ℕ) (R : ℕ → ℕ) (a : ℕ) (past : (f g : ℕ) → Has (R f) g → f < a) (lF : F < 2 ^ 64) (lR : (f : ℕ) → R f < 2 ^ 64) where
     abbrev rivals : ℕ → ℕ
-    rivals k = union a R (row m.needs k)
+    rivals k = union a R (move_at m k).needs
 
     abbrev beside : ℕ → ℕ
-    beside k = minus (touch t m (row m.uses k) (row m.deletes k) (rivals k)) (2 ^ k)
+    beside k = minus (touch t m (move_at m k).uses (move_at m k).deletes (rivals k)) (2 ^ k)
 
     abbrev kept : ℕ → ℕ
-    kept k = bit_or (row m.deletes k) (rivals k)
+    kept k = bit_or (move_at m k).deletes (rivals k)
 
     rivals_small : (k : ℕ) → rivals k < 2 ^ 64
-    rivals_small k = within_below 64 (rivals k) (λ g h. let r = (barred_marks F R a past (row m.needs k)).only g h in has_lt (R r.0) g (lR r.0) r.2)
+    rivals_small k = within_below 64 (rivals k) (λ g h. let r = (barred_marks F R a past (move_at m k).needs).only g h in has_lt (R r.0) g (lR r.0) r.2)
 
     clash_nodes : (k : ℕ) → k < t.count → NodesOf t (Clash t (masks F R) (action k)) (record { actions = beside k; noops = kept k })
     clash_nodes k lt =
-        action_clashes t (masks F R) m ms k lt (rivals k) _ (2 ^ k) _ (barred_marks F R a past (row m.needs k))
+        action_clashes t (masks F R) m ms k lt (rivals k) _ (2 ^ k) _ (barred_marks F R a past (move_at m k).needs)
         (touch_marks _ _ _ (rs.small_uses k) (rs.small_deletes k) (rivals_small k)) (single_marks k (omega (arith, ms.few))) (minus_marks _ _)
 
     abbrev stopped_actions : ℕ → ℕ
@@ -245,10 +253,14 @@ module _ (t : Task) (m : Moves) (ms : MovesOf t m) (rs : Rows t m) where
     abbrev supporters : ℕ → ℕ
     supporters f = meeting t.count (supports F R a past t) (2 ^ f)
 
-    supporters_marks : (f : ℕ) → f < 64 → Marks (supporters f) (λ k. Meet (supports F R a past t k) (2 ^ f))
+    supporters_marks : (f : ℕ) → f < 64 → Marks (supporters f) (λ k. Has (supports F R a past t k) f)
     supporters_marks f lt =
         let q = meeting_marks t.count (supports F R a past t) (2 ^ f) ms.few (one_fits f lt) in
-        record { only = λ k h. (q.only k h).1; all = λ k h. q.all k (((supports_marks F R a past t k).only h.0 h.1).0, h) }
+        let one = single_marks f lt in
+        record {
+          only = λ k h. let r = (q.only k h).1 in subst (λ (x : ℕ). Has (supports F R a past t k) x) (one.only r.0 r.2).0 r.1;
+          all = λ k h. q.all k (((supports_marks F R a past t k).only f h).0, (f, h, one.all f (refl, lt)));
+        }
 
     abbrev beaten : (ℕ → ℕ) → ℕ → ℕ → ℕ
     beaten rows start f = common t.count rows (supporters f) start
@@ -264,9 +276,9 @@ module _ (t : Task) (m : Moves) (ms : MovesOf t m) (rs : Rows t m) where
     beaten_nodes : (f : ℕ) → f < 64
         → NodesOf t (Beaten t (masks F R) f) (record { actions = beaten beside (stopped_actions f) f; noops = beaten kept (stopped_noops f) f })
     beaten_nodes f lt = record {
-      actions = λ j ltj. beaten_both t (masks F R) f (2 ^ f) lt (single_marks f lt) (supports F R a past t) beside (supporters f) (supports_marks F R a past t) (supporters_marks f lt)
+      actions = λ j ltj. beaten_both t (masks F R) f (supports F R a past t) beside (supporters f) (supports_marks F R a past t) (supporters_marks f lt)
           (action j) j (λ k ltk. (clash_nodes k ltk).actions j ltj) _ _ ((stopped_nodes f lt).actions j ltj) (beaten_marks beside (stopped_actions f) f lt);
-      noops = λ g ltg. beaten_both t (masks F R) f (2 ^ f) lt (single_marks f lt) (supports F R a past t) kept (supporters f) (supports_marks F R a past t) (supporters_marks f lt)
+      noops = λ g ltg. beaten_both t (masks F R) f (supports F R a past t) kept (supporters f) (supports_marks F R a past t) (supporters_marks f lt)
           (noop g) g (λ k ltk. (clash_nodes k ltk).noops g ltg) _ _ ((stopped_nodes f lt).noops g ltg) (beaten_marks kept (stopped_noops f) f lt);
     }
 

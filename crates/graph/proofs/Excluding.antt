@@ -1,5 +1,5 @@
 -- The next level by masks: its facts, and its exclusions.
-use Rattle.std.proofs.Common.{◌≡◌, ℕ, ◌^◌, ◌<◌, ◌≤◌, sym, refl, ap, subst, inl, inr, arith}
+use Rattle.std.proofs.Common.{◌≡◌, ℕ, ◌^◌, ◌<◌, ◌≤◌, List, sym, refl, ap, subst, inl, inr, arith}
 use lib.Bits.{bit_or}
 use Rattle.sets.specs.Sets.{Has, Marks}
 use Rattle.sets.proofs.Bits.{has?}
@@ -7,11 +7,13 @@ use Rattle.sets.proofs.Members.{has_lt, not_in_none, none_marks}
 use Rattle.problem.specs.Firm.{Task}
 use Rattle.graph.specs.Levels.{Level, Node, action, noop, Supports, Supported, Clash, Excludes}
 use Rattle.graph.specs.Turning.{Both}
-use Rattle.graph.specs.Tables.{MovesOf, NodesOf, Touches, Meet, Stopped, Beaten}
-use Rattle.graph.specs.declared.table.Moves.{Moves}
+use Rattle.graph.specs.Tables.{MovesOf, NodesOf, Touches, Stopped, Beaten}
+use Rattle.graph.specs.declared.table.Move.{Move}
 use Rattle.graph.specs.declared.table.Nodes.{Nodes}
-use Rattle.graph.proofs.RowSets.{or_l, or_r, or_either, one_is, one_has}
-use Rattle.graph.proofs.Sure.{every, all_has}
+use Rattle.sets.proofs.Parts.{or_left, or_right, or_either}
+use Rattle.graph.proofs.RowSets.{one_is, one_has}
+use Rattle.graph.specs.Tables.{every}
+use Rattle.graph.proofs.Sure.{all_has}
 use Rattle.graph.proofs.Clashing.{Profile, touches_spoils, spoils_touches, noop_spoils, spoils_noop, action_noop, noop_one}
 
 -- ---- the facts
@@ -29,8 +31,8 @@ module _ (t : Task) (l : Level) (facts u : ℕ) (supports : ℕ → ℕ) (is : M
   }
     where
       back : (g : ℕ) (x : Node) → Supports t l x g → Has (bit_or facts u) g
-      back g (action k) s = let h = (sup k).all g s in or_r facts u g (m.all g (k, all_has k (below k g h), h))
-      back g (noop h) s = or_l facts u g (subst (λ (w : ℕ). Has facts w) (sym s.0) (is.all h s.1))
+      back g (action k) s = let h = (sup k).all g s in or_right facts u g (m.all g (k, all_has k (below k g h), h))
+      back g (noop h) s = or_left facts u g (subst (λ (w : ℕ). Has facts w) (sym s.0) (is.all h s.1))
 
 -- ---- the no-op of an atom
 
@@ -55,7 +57,7 @@ module _ (t : Task) (l : Level) (f : ℕ) where
       };
     }
 
-    pub stopped : (m : Moves) → MovesOf t m → l.fact f → (touched rest : ℕ) → Marks touched (Touches m one 0 barred)
+    pub stopped : (m : List Move) → MovesOf t m → l.fact f → (touched rest : ℕ) → Marks touched (Touches m one 0 barred)
         → Marks rest (λ g. Has barred g × (Has one g → ⊥)) → NodesOf t (Stopped t l f) (record { actions = touched; noops = rest })
     stopped m ms fact touched rest th r = record {
       actions = λ j ltj. (
@@ -76,13 +78,13 @@ module _ (t : Task) (l : Level) (f : ℕ) where
 
 -- ---- what clashes with each supporter
 
-module _ (t : Task) (l : Level) (f one : ℕ) (lt : f < 64) (o : Marks one (λ j. (j ≡ f) × (j < 64))) (supports rows : ℕ → ℕ) (supporters : ℕ)
-    (sup : (k : ℕ) → Marks (supports k) (Supports t l (action k))) (by : Marks supporters (λ k. Meet (supports k) one)) where
+module _ (t : Task) (l : Level) (f : ℕ) (supports rows : ℕ → ℕ) (supporters : ℕ)
+    (sup : (k : ℕ) → Marks (supports k) (Supports t l (action k))) (by : Marks supporters (λ k. Has (supports k) f)) where
   supporter : (k : ℕ) → Has supporters k → Supports t l (action k) f
-  supporter k h = let m = by.only k h in (sup k).only f (subst (λ (x : ℕ). Has (supports k) x) (one_is one f m.0 o m.2) m.1)
+  supporter k h = (sup k).only f (by.only k h)
 
   is_supporter : (k : ℕ) → Supports t l (action k) f → Has supporters k
-  is_supporter k s = by.all k (f, (sup k).all f s, one_has one f o lt)
+  is_supporter k s = by.all k ((sup k).all f s)
 
   module _ (y : Node) (j : ℕ) (rowed : (k : ℕ) → k < t.count → Both (Has (rows k) j) (Clash t l (action k) y))
       (start r : ℕ) (starts : Both (Has start j) (Stopped t l f y)) (m : Marks r (λ g. Has start g × ((k : ℕ) → Has supporters k → Has (rows k) g))) where
@@ -110,11 +112,11 @@ module _ (t : Task) (l : Level) (old facts f : ℕ) (supports : ℕ → ℕ) (fe
   clashes : (g : ℕ) → (Has (bit_or u v) g → ⊥) → (x z : Node) → Supports t l x f → Supports t l z g → Clash t l x z
   clashes g un x (action j) sx sz = elim (has? nodes.actions j) [
     | yes a ↦ (beaten.actions j sz.0).0 a x sx
-    | no na ↦ absurd (un (or_l u v g (m-u.all g (j, m-others.all j (all_has j (omega (arith, sz.0, few)), na), (sup j).all g sz))))
+    | no na ↦ absurd (un (or_left u v g (m-u.all g (j, m-others.all j (all_has j (omega (arith, sz.0, few)), na), (sup j).all g sz))))
   ]
   clashes g un x (noop h) sx sz = elim (has? nodes.noops h) [
     | yes a ↦ (beaten.noops h (has_lt old h fits (is.all h sz.1))).0 a x sx
-    | no na ↦ absurd (un (or_r u v g (subst (λ (w : ℕ). Has v w) (sym sz.0) (m-v.all h (is.all h sz.1, na)))))
+    | no na ↦ absurd (un (or_right u v g (subst (λ (w : ℕ). Has v w) (sym sz.0) (m-v.all h (is.all h sz.1, na)))))
   ]
 
   pub excluded : Has facts f → Marks r (Excludes t l f)

@@ -1,24 +1,23 @@
 -- The first levels of the model valuation.
 use Rattle.std.proofs.Common.{◌≡◌, ℕ, zero, suc, ◌^◌, ◌<◌, ◌≤◌, ◌⊎◌, List, [], ◌∷◌, length, sym, refl, ◌∙◌, subst, inl, inr, arith, lit<, lit≤}
 use native.Mathlib.Decide.{dec_le}
-use lib.Bits.{bit_or}
 use Rattle.std.proofs.lemmas.List.{get_or_past}
 use Rattle.sets.specs.Sets.{bit, Has, Within, Marks, minus}
-use Rattle.sets.proofs.Bits.{minus_marks}
 use Rattle.sets.proofs.Members.{below_within, not_in_none, single_marks}
 use Rattle.problem.specs.Rows.{names_of}
-use Rattle.problem.specs.Actions.{Among, adds, deletes}
+use Rattle.problem.specs.Actions.{Among}
 use Rattle.problem.specs.Problems.{Fits}
 use Rattle.problem.specs.declared.rows.EffectRow.{EffectRow}
-use Rattle.graph.specs.Levels.{Level, action, next, level, Same, Needs, SureAdd, SureDelete}
+use Rattle.graph.specs.Levels.{Level, next, level, Same}
 use Rattle.graph.specs.Turning.{row, Both}
-use Rattle.graph.specs.Tables.{Uses, MovesOf}
+use Rattle.graph.specs.Tables.{MoveOf, MovesOf, move_at, move_is}
 use Rattle.graph.specs.Valuation.{valuation, FirstLevels, Pair}
-use Rattle.graph.specs.declared.table.Moves.{Moves}
+use Rattle.graph.specs.declared.table.Move.{Move}
 use Rattle.graph.proofs.Neighbours.{joined, turned, next_same}
-use Rattle.graph.proofs.Sure.{every, sure_adds, sure_deletes, need_marks, use_marks}
+use Rattle.graph.proofs.Sure.{action_move}
 use Rattle.graph.proofs.Computing.{masks, Rows, next_facts, next_row, next_masks, has_false}
-use Rattle.graph.proofs.RowSets.{row_lt, or_either}
+use Rattle.sets.proofs.Parts.{or_either}
+use Rattle.graph.proofs.RowSets.{row_lt}
 
 below_three : (P : ℕ → Type 0) → P 0 → P 1 → P 2 → (k : ℕ) → k < 3 → P k
 below_three P a b c zero lt = a
@@ -51,38 +50,32 @@ fits = record {
 }
 
 -- what the actions need, use and surely delete
-abbrev moves : Moves
-moves = record { needs = 1 ∷ 2 ∷ 1 ∷ []; uses = 3 ∷ 18 ∷ 1 ∷ []; deletes = 0 ∷ 0 ∷ 1 ∷ [] }
+abbrev moves : List Move
+moves =
+    record { needs = 1; uses = 3; deletes = 0 }
+    ∷ record { needs = 2; uses = 18; deletes = 0 }
+    ∷ record { needs = 1; uses = 1; deletes = 1 } ∷ []
 
-module _ (k : ℕ) (lt : k < 3) where
-  adds_of : Marks (minus (adds 0 (valuation.at k).effects) (deletes every (valuation.at k).effects)) (SureAdd valuation (action k))
-  adds_of = sure_adds valuation fits k lt (valuation.at k).effects refl _ _ _ refl refl (minus_marks _ _)
-
-  deletes_of : Marks (minus (deletes 0 (valuation.at k).effects) (adds every (valuation.at k).effects)) (SureDelete valuation (action k))
-  deletes_of = sure_deletes valuation fits k lt (valuation.at k).effects refl _ _ _ refl refl (minus_marks _ _)
-
-  uses_of : Marks (bit_or (valuation.at k).precondition (minus (adds 0 (valuation.at k).effects) (deletes every (valuation.at k).effects))) (Uses valuation (action k))
-  uses_of = use_marks valuation k _ _ refl adds_of
+of_action : (k : ℕ) → k < 3 → MoveOf valuation k (move_is valuation k)
+of_action = action_move valuation fits
 
 moves_of : MovesOf valuation moves
 unfolding minus
 moves_of = record {
   few = lit≤ tt;
-  needs = below_three (λ k. Marks (row moves.needs k) (Needs valuation (action k))) (need_marks valuation 0 1 refl) (need_marks valuation 1 2 refl) (need_marks valuation 2 1 refl);
-  uses = below_three (λ k. Marks (row moves.uses k) (Uses valuation (action k))) (uses_of 0 (lit< tt)) (uses_of 1 (lit< tt)) (uses_of 2 (lit< tt));
-  deletes = below_three (λ k. Marks (row moves.deletes k) (SureDelete valuation (action k))) (deletes_of 0 (lit< tt)) (deletes_of 1 (lit< tt)) (deletes_of 2 (lit< tt));
+  each = below_three (λ k. MoveOf valuation k (move_at moves k))
+      (of_action 0 (lit< tt)) (of_action 1 (lit< tt)) (of_action 2 (lit< tt));
 }
 
-small_row : (rows : List ℕ) → ((k : ℕ) → k < 3 → row rows k < 2 ^ 64) → length rows ≡ 3 → (k : ℕ) → row rows k < 2 ^ 64
-small_row rows f e k = elim (dec_le 3 k) [ yes past ↦ rw (get_or_past rows k 0 (omega arith)) (lit< tt) | no below ↦ f k (omega arith) ]
+small_part : (part : Move → ℕ) → ((k : ℕ) → k < 3 → part (move_at moves k) < 2 ^ 64) → part (record { needs = 0; uses = 0; deletes = 0 }) < 2 ^ 64
+    → (k : ℕ) → part (move_at moves k) < 2 ^ 64
+small_part part f none k = elim (dec_le 3 k) [ yes past ↦ rw (get_or_past moves k _ past) none | no below ↦ f k (omega arith) ]
 
 rows_of : Rows valuation moves
 rows_of = record {
-  needs = refl;
-  uses = refl;
-  deletes = refl;
-  small_uses = small_row moves.uses (below_three (λ k. row moves.uses k < 2 ^ 64) (lit< tt) (lit< tt) (lit< tt)) refl;
-  small_deletes = small_row moves.deletes (below_three (λ k. row moves.deletes k < 2 ^ 64) (lit< tt) (lit< tt) (lit< tt)) refl;
+  long = refl;
+  small_uses = small_part (λ m. m.uses) (below_three (λ k. (move_at moves k).uses < 2 ^ 64) (lit< tt) (lit< tt) (lit< tt)) (lit< tt);
+  small_deletes = small_part (λ m. m.deletes) (below_three (λ k. (move_at moves k).deletes < 2 ^ 64) (lit< tt) (lit< tt) (lit< tt)) (lit< tt);
 }
 
 -- one level after another: computed for the five atoms, and empty past them

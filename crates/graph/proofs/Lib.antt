@@ -1,6 +1,5 @@
 pub mod Soundness
 pub mod Neighbours
-pub mod Fitting
 pub mod RowSets
 pub mod Sure
 pub mod Supporting

@@ -1,20 +1,20 @@
 -- Sure adds and sure deletes by what fires in the empty state and in the full one.
-use Rattle.std.proofs.Common.{◌≡◌, ℕ, ◌<◌, T, List, sym, refl, subst, inl, inr, arith}
+use Rattle.std.proofs.Common.{◌≡◌, ℕ, ◌<◌, T, List, length, sym, refl, subst, inl, inr, arith}
 use lib.Bits.{bit_or}
 use Rattle.sets.specs.Sets.{Has, Marks}
-use Rattle.sets.proofs.Bits.{same_members}
+use Rattle.sets.proofs.Bits.{same_members, minus_marks}
 use Rattle.sets.proofs.Members.{all_marks, not_in_none}
 use Rattle.problem.specs.Actions.{Among, fires, gather, adds, deletes}
 use Rattle.problem.specs.Firm.{Task}
-use Rattle.problem.specs.Problems.{Fits}
+use Rattle.problem.specs.Problems.{task_of, Fits}
+use Rattle.problem.specs.declared.problem.Problem.{Problem}
+use Rattle.problem.proofs.Fitting.{problem_fits}
 use Rattle.problem.specs.declared.rows.EffectRow.{EffectRow}
 use Rattle.problem.proofs.Effects.{fires_inside, inside_fires, gather_from, gather_has, empty_fires}
 use Rattle.graph.specs.Levels.{action, SureAdd, SureDelete, Needs}
-use Rattle.graph.specs.Tables.{Uses}
-use Rattle.graph.proofs.RowSets.{or_l, or_r, or_either}
-
-abbrev pub every : ℕ
-every = 18446744073709551615
+use Rattle.graph.specs.Tables.{Uses, MoveOf, MovesOf, every, move_at, move_is, sure_add_of, sure_delete_of}
+use Rattle.graph.specs.declared.table.Move.{Move}
+use Rattle.sets.proofs.Parts.{or_left, or_right, or_either}
 
 pub all_has : (k : ℕ) → k < 64 → Has every k
 all_has k lt = (all_marks 64).all k lt
@@ -26,7 +26,7 @@ fires_empty e h = same_members e.condition 0 (fires_inside 0 e h) (λ k b. absur
 -- in the state that has all atoms, every effect fires
 all_fire : (t : Task) → Fits t → (k : ℕ) → k < t.count → (e : EffectRow) → Among e (t.at k).effects → T (fires every e)
 all_fire t fits k lt e a = inside_fires every e (λ f h. all_has f
-    (omega (arith, fits.few_atoms, fits.effects k lt e a f (or_l (bit_or e.condition e.add) e.delete f (or_l e.condition e.add f h)))))
+    (omega (arith, fits.few_atoms, fits.effects k lt e a f (or_left (bit_or e.condition e.add) e.delete f (or_left e.condition e.add f h)))))
 
 -- in one set of an effect with empty condition, and in no other set of any effect
 abbrev Sure : (EffectRow → ℕ) → (EffectRow → ℕ) → List EffectRow → ℕ → Type 0
@@ -75,8 +75,23 @@ module _ (t : Task) (fits : Fits t) (k : ℕ) (lt : k < t.count) (es : List Effe
 pub use_marks : (t : Task) (k pre add : ℕ) → pre ≡ (t.at k).precondition → Marks add (SureAdd t (action k)) → Marks (bit_or pre add) (Uses t (action k))
 use_marks t k pre add e m = record {
   only = λ f h. elim (or_either pre add f h) [ inl a ↦ inl (subst (λ (x : ℕ). Has x f) e a) | inr a ↦ inr (m.only f a) ];
-  all = λ f u. elim u [ inl a ↦ or_l pre add f (subst (λ (x : ℕ). Has x f) (sym e) a) | inr a ↦ or_r pre add f (m.all f a) ];
+  all = λ f u. elim u [ inl a ↦ or_left pre add f (subst (λ (x : ℕ). Has x f) (sym e) a) | inr a ↦ or_right pre add f (m.all f a) ];
 }
 
 pub need_marks : (t : Task) (k pre : ℕ) → pre ≡ (t.at k).precondition → Marks pre (Needs t (action k))
 need_marks t k pre e = record { only = λ f. subst (λ (x : ℕ). Has x f) e; all = λ f. subst (λ (x : ℕ). Has x f) (sym e) }
+
+-- a move that is worked out says what its action needs, uses and surely deletes
+pub action_move : (t : Task) → Fits t → (k : ℕ) → k < t.count → MoveOf t k (move_is t k)
+action_move t fits k lt = record {
+  needs = need_marks t k _ refl;
+  uses = use_marks t k _ (sure_add_of t k) refl (sure_adds t fits k lt _ refl _ _ _ refl refl (minus_marks _ _));
+  deletes = sure_deletes t fits k lt _ refl _ _ (sure_delete_of t k) refl refl (minus_marks _ _);
+}
+
+-- and so do those of a problem
+pub worked_out : (p : Problem) (moves : List Move) → ((k : ℕ) → k < length p.actions.now → move_at moves k ≡ move_is (task_of p) k) → MovesOf (task_of p) moves
+worked_out p moves is = record {
+  few = p.sized.2;
+  each = λ k lt. subst (λ (m : Move). MoveOf (task_of p) k m) (sym (is k lt)) (action_move (task_of p) (problem_fits p) k lt);
+}

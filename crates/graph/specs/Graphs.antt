@@ -1,5 +1,5 @@
 -- The table of a graph, level by level.
-use Rattle.std.specs.Prelude.{◌≡◌, ℕ, ◌+◌, ◌*◌, ◌<◌, ◌≤◌, Bool, not, ◌||◌, ◌==◌, slice_index}
+use Rattle.std.specs.Prelude.{◌≡◌, ℕ, ◌+◌, ◌*◌, ◌<◌, ◌≤◌, Bool, not, ◌||◌, ◌==◌, List, take, drop, slice_index}
 use Rattle.sets.specs.Sets.{bit, Has}
 use Rattle.problem.specs.Firm.{Task}
 use Rattle.graph.specs.Levels.{Level, level, Same}
@@ -16,6 +16,10 @@ facts_at g n = slice_index g.facts n
 -- the row of the atom a at the level n
 abbrev pub row_at : Graph → ℕ → ℕ → ℕ
 row_at g n a = slice_index g.exclusive (64 * n + a)
+
+-- all rows of the level n
+abbrev pub rows_at : Graph → ℕ → List ℕ
+rows_at g n = take 64 (drop (64 * n) g.exclusive)
 
 -- the level n of the table
 abbrev pub level_in : Graph → ℕ → Level

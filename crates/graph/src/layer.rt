@@ -1,9 +1,6 @@
-ghost use Rattle.std.specs.Prelude.{◌≡◌, length};
-
 // A level as it is read: its facts, and for each of 64 atoms the set of those exclusive with it.
-#[derive(Clone, Copy)]
+#[derive(Clone, Copy, PartialEq)]
 pub(crate) struct Layer<'a> {
     pub(crate) facts: u64,
-    pub(crate) exclusive: &'a [u64],
-    ghost whole: { length exclusive.now ≡ 64 },
+    pub(crate) exclusive: &'a [u64; 64],
 }

@@ -2,8 +2,8 @@
 // The planning graph of a problem.
 mod asking;
 mod clash;
-mod exclusion;
 mod graph;
+mod growth;
 mod layer;
 mod masks;
 mod moves;

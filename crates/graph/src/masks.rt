@@ -1,10 +1,10 @@
 // A relation of numbers below 64 as 64 rows of sets.
-ghost use Rattle.std.specs.Prelude.{◌≡◌, ℕ, length, Decides};
+ghost use Rattle.std.specs.Prelude.{ℕ, ◌<◌, Decides};
 ghost use Rattle.sets.specs.Sets.{Has, Marks};
 ghost use Rattle.graph.specs.Turning.{row, Turned};
-ghost use Rattle.graph.specs.Tables.{Meet};
 
-use sets::{apart, single};
+use sets::{apart, members_of, single};
+use std::array;
 
 // Whether a set has a member.
 pub(crate) fn has(set: u64, member: u32) -> bool
@@ -13,42 +13,25 @@ pub(crate) fn has(set: u64, member: u32) -> bool
     !apart(set, single(member))
 }
 
-// The union of the rows of a set.
-pub(crate) fn union_of(rows: &[u64], of: u64) -> u64
-    requires { length rows.now ≡ 64 }
+// The union of the rows of a set. Regression has one over a closure; one for both would have a `requires` that a user can reach.
+pub(crate) fn union_of(rows: &[u64; 64], of: u64) -> u64
     ensures { Marks result (λ g. (k : ℕ) × Has of k × Has (row rows.now k) g) }
 {
     let mut all = 0;
-    let mut left = of;
-    while left != 0 {
-        all |= rows[left.trailing_zeros() as usize];
-        left &= left - 1;
+    for k in members_of(of) {
+        all |= rows[k as usize];
     }
     all
 }
 
-// What `start` and each row of a set have in common.
-pub(crate) fn common_of(rows: &[u64], of: u64, start: u64) -> u64
-    requires { length rows.now ≡ 64 }
-    ensures { Marks result (λ g. Has start g × ((k : ℕ) → Has of k → Has (row rows.now k) g)) }
-{
-    let mut all = start;
-    let mut left = of;
-    while left != 0 {
-        all &= rows[left.trailing_zeros() as usize];
-        left &= left - 1;
-    }
-    all
-}
-
-// The numbers whose rows have a member of a set.
-pub(crate) fn meeting(rows: &[u64], set: u64) -> u64
-    requires { length rows.now ≡ 64 }
-    ensures { Marks result (λ k. Meet (row rows.now k) set) }
+// The numbers whose rows have a member.
+pub(crate) fn column(rows: &[u64; 64], member: usize) -> u64
+    requires { member < 64 }
+    ensures { Marks result (λ k. Has (row rows.now k) member) }
 {
     let mut all = 0;
-    for k in 0..64 {
-        if rows[k] & set != 0 {
+    for (k, row) in rows.iter().enumerate() {
+        if has(*row, member as u32) {
             all |= single(k as u32);
         }
     }
@@ -59,9 +42,5 @@ pub(crate) fn meeting(rows: &[u64], set: u64) -> u64
 pub(crate) fn turned(rows: &[u64; 64]) -> [u64; 64]
     ensures { Turned result rows.now }
 {
-    let mut others = [0; 64];
-    for k in 0..64 {
-        others[k] = meeting(rows, single(k as u32));
-    }
-    others
+    array::from_fn(|member| column(rows, member))
 }

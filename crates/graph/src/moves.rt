@@ -1,20 +1,18 @@
-ghost use Rattle.std.specs.Prelude.{◌<◌, length};
-ghost use Rattle.sets.specs.Sets.{Marks};
+ghost use Rattle.std.specs.Prelude.{◌≡◌};
 ghost use Rattle.problem.specs.Problems.{task_of};
-ghost use Rattle.graph.specs.Levels.{action as act, SureAdd, SureDelete};
-ghost use Rattle.graph.specs.Tables.{MovesOf};
+ghost use Rattle.graph.specs.Tables.{move_is, sure_add_of, sure_delete_of};
 
 use crate::masks::turned;
-use crate::table::{Links, Moves};
+use crate::table::{Links, Move};
 use problem::{Change, Problem, change_in};
 use sets::without;
+use std::array;
 
 // What an action surely adds and deletes. An effect with empty condition fires in the empty state, and every effect fires in
 // the state that has all atoms.
 fn sure_change(problem: &Problem, index: usize) -> Change
-    requires { index < length problem.now.actions.now }
-    ensures add { Marks result.add (SureAdd (task_of problem.now) (act index)) }
-    ensures delete { Marks result.delete (SureDelete (task_of problem.now) (act index)) }
+    ensures add { result.add ≡ sure_add_of (task_of problem.now) index }
+    ensures delete { result.delete ≡ sure_delete_of (task_of problem.now) index }
 {
     let effects = problem.effects_of(index);
     let always = change_in(effects, 0);
@@ -25,39 +23,29 @@ fn sure_change(problem: &Problem, index: usize) -> Change
     }
 }
 
-// What each action needs, uses and surely deletes.
-fn moves_of(problem: &Problem) -> Moves
-    ensures { MovesOf (task_of problem.now) result }
+// What an action needs, uses and surely deletes.
+fn move_of(problem: &Problem, index: usize) -> Move
+    ensures { result ≡ move_is (task_of problem.now) index }
 {
-    let mut needs = [0; 64];
-    let mut uses = [0; 64];
-    let mut deletes = [0; 64];
-    for index in 0..problem.actions.len() {
-        let precondition = problem.precondition_of(index);
-        let change = sure_change(problem, index);
-        needs[index] = precondition;
-        uses[index] = precondition | change.add;
-        deletes[index] = change.delete;
-    }
-    Moves {
+    let needs = problem.precondition_of(index);
+    let change = sure_change(problem, index);
+    Move {
         needs,
-        uses,
-        deletes,
+        uses: needs | change.add,
+        deletes: change.delete,
     }
 }
 
 // The moves, and for each atom the actions that need it, use it and surely delete it.
-pub(crate) fn links_of(problem: &Problem) -> Links
-    ensures { MovesOf (task_of problem.now) result.moves }
+pub(crate) fn links_of<'a>(problem: &'a Problem<'a>) -> Links<'a>
+    ensures { result.problem.now ≡ problem.now }
 {
-    let moves = moves_of(problem);
-    let needers = turned(&moves.needs);
-    let users = turned(&moves.uses);
-    let deleters = turned(&moves.deletes);
+    let moves: [Move; 64] = array::from_fn(|index| move_of(problem, index));
     Links {
+        problem,
         moves,
-        needers,
-        users,
-        deleters,
+        needers: turned(&moves.map(|m| m.needs)),
+        users: turned(&moves.map(|m| m.uses)),
+        deleters: turned(&moves.map(|m| m.deletes)),
     }
 }

@@ -1,21 +1,17 @@
 ghost use Rattle.graph.specs.Theorems.{LevelsSound, ExclusiveBoth, BarsLoosen, NeighboursStay, BarredUnreached, ClosedUnreached};
 ghost use Rattle.graph.specs.Valuation.{FirstLevels};
 
-// The theorems on the levels of the planning graph; the number says nothing.
-pub fn levels_stand() -> u8
+// The theorems on the levels of the planning graph.
+pub fn levels_stand()
     ensures sound { LevelsSound }
     ensures both { ExclusiveBoth }
     ensures loosen { BarsLoosen }
     ensures stay { NeighboursStay }
     ensures barred { BarredUnreached }
     ensures closed { ClosedUnreached }
-{
-    0
-}
+{}
 
-// The first levels of the model valuation; the number says nothing.
-pub fn first_levels_stand() -> u8
+// The first levels of the model valuation.
+pub fn first_levels_stand()
     ensures { FirstLevels }
-{
-    0
-}
+{}

@@ -11,7 +11,7 @@ use Rattle.problem.specs.Problems.{Fits}
 use Rattle.graph.specs.Levels.{level, Bars, Closing}
 use Rattle.graph.specs.Graphs.{GraphOf, bars_in}
 use Rattle.graph.specs.declared.graph.Graph.{Graph}
-use Rattle.graph.proofs.Fitting.{problem_fits}
+use Rattle.problem.proofs.Fitting.{problem_fits}
 use Rattle.graph.proofs.Neighbours.{barred_unreached, closed_unreached}
 use Rattle.graph.proofs.Answering.{t_true, bars_rule, bars_turned}
 use Rattle.outlook.specs.Outlooks.{Lawful}

@@ -3,7 +3,7 @@ use Rattle.std.specs.Prelude.{◌≡◌, ℕ, false, None, refl}
 use Rattle.std.proofs.Common.{arith}
 use Rattle.problem.specs.Firm.{Task}
 use Rattle.problem.specs.Problems.{task_of, Fits}
-use Rattle.graph.proofs.Fitting.{problem_fits}
+use Rattle.problem.proofs.Fitting.{problem_fits}
 use Rattle.outlook.specs.Outlooks.{View, Lawful}
 use Rattle.outlook.specs.declared.open_outlook.OpenOutlook.{OpenOutlook}
 

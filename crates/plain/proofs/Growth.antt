@@ -6,7 +6,7 @@ use Rattle.problem.specs.Firm.{Task, FirmStep}
 use Rattle.problem.specs.Problems.{Fits}
 use Rattle.problem.specs.Runs.{start, more}
 use Rattle.plain.specs.Trees.{entry, Grown, Seen, Front}
-use Rattle.plain.specs.Growth.{rows_of, Growing, AlikeBounds, Remembered, Unremembered, Stops, Taken, Reaches}
+use Rattle.plain.specs.Growth.{rows_of, Growing, Remembered, Unremembered, Stops, Taken, Reaches}
 use Rattle.plain.specs.declared.reached.Reached.{Reached}
 use Rattle.plain.specs.declared.tree.Stop.{Stop}
 use Rattle.plain.specs.declared.tree.Stop.TheVariants.{Full, NoMemory}
@@ -16,37 +16,34 @@ use Rattle.plain.proofs.Trees.{entry_read, entry_new, front_same, front_push, kn
 use Rattle.plain.proofs.Crowds.{crowded}
 
 -- there is no room for the first state
-pub stops_root : (t : Task) (a : Tree) (e : Reached) (limit : ℕ) → rows_of a ≡ []
-    → (stop : Stop) → Unremembered a e stop → Stops t limit a.most stop
-stops_root t a e limit none Full u =
-    crowded t limit a.most [] 0 t.first (grown_none t limit) (omega (arith, u.1, a.reached.ok.0, ap length none))
+pub stops_root : (t : Task) (limit most : ℕ) (a : Tree) (e : Reached) → rows_of a ≡ []
+    → (stop : Stop) → Unremembered most a e stop → Stops t limit most stop
+stops_root t limit most a e none Full u =
+    crowded t limit most [] 0 t.first (grown_none t limit) (omega (arith, u.1, a.reached.ok.0, ap length none))
     (λ h. absurd (let z : ⊥ = omega (arith, h.1.0) in z)) (omega arith) start
-stops_root t a e limit none NoMemory u = tt
+stops_root t limit most a e none NoMemory u = tt
 
--- the same tree, with its bounds
-pub growing_same : (t : Task) (a b : Tree) (i : ℕ) → AlikeBounds a b → rows_of b ≡ rows_of a → vec_len b.reached ≡ vec_len a.reached
-    → Growing t a i → Growing t b i
-growing_same t a b i alike same len g = record {
-  sound = record {
-    grown = rw alike.0 (rw same g.sound.grown);
-    within = rw alike.1 (rw len g.sound.within);
-  };
+-- the same tree
+pub growing_same : (t : Task) (limit most : ℕ) (a b : Tree) (i : ℕ) → rows_of b ≡ rows_of a → vec_len b.reached ≡ vec_len a.reached
+    → Growing t limit most a i → Growing t limit most b i
+growing_same t limit most a b i same len g = record {
+  sound = record { grown = rw same g.sound.grown; within = rw len g.sound.within };
   known = rw same g.known;
   ahead = rw same g.ahead;
 }
 
-module _ (t : Task) (a : Tree) (i : ℕ) (x : Reached) (g : Growing t a i) (read : x ≡ get_or (rows_of a) i x) where
+module _ (t : Task) (limit most : ℕ) (a : Tree) (i : ℕ) (x : Reached) (g : Growing t limit most a i) (read : x ≡ get_or (rows_of a) i x) where
   same_entry : x ≡ entry (rows_of a) i
   same_entry = entry_read (rows_of a) i x g.known read
 
   -- a step that is not firm is not taken
   pub not_firm : (step : ℕ) → Fits t → (Within t.atoms x.state → (end : ℕ) → FirmStep t x.state step end → ⊥)
-      → Taken t a.limit (rows_of a) (entry (rows_of a) i) step false
+      → Taken t limit (rows_of a) (entry (rows_of a) i) step false
   not_firm step fits h lt end f =
       subst (λ (y : Reached). Within t.atoms y.state → (end : ℕ) → FirmStep t y.state step end → ⊥) same_entry h
-      (runs_within t fits _ _ (entry_run t a.limit (rows_of a) g.sound.grown i g.known)) end f
+      (runs_within t fits _ _ (entry_run t limit (rows_of a) g.sound.grown i g.known)) end f
 
-  module _ (step end : ℕ) (firm : FirmStep t x.state step end) (lt : x.depth < a.limit) where
+  module _ (step end : ℕ) (firm : FirmStep t x.state step end) (lt : x.depth < limit) where
     -- what is remembered of the step
     abbrev next : Reached
     next = record { state = end; from = i; step = step; depth = x.depth + 1 }
@@ -60,32 +57,32 @@ module _ (t : Task) (a : Tree) (i : ℕ) (x : Reached) (g : Growing t a i) (read
     ahead : (j : ℕ) → j < length (rows_of a) → (entry (rows_of a) j).depth ≤ x.depth + 1
     ahead j l = omega (arith, g.ahead j l, deeper)
 
-    grown_next : (Seen (rows_of a) end → ⊥) → Grown t a.limit (rows_of a ++ next ∷ [])
+    grown_next : (Seen (rows_of a) end → ⊥) → Grown t limit (rows_of a ++ next ∷ [])
     grown_next fresh =
-        grown_push (rows_of a) next t a.limit g.sound.grown (record { earlier = g.known; deeper = deeper; firm = out }) (omega arith) ahead fresh
+        grown_push (rows_of a) next t limit g.sound.grown (record { earlier = g.known; deeper = deeper; firm = out }) (omega arith) ahead fresh
 
-    pub stops_out : (stop : Stop) → Unremembered a next stop → Stops t a.limit a.most stop
+    pub stops_out : (stop : Stop) → Unremembered most a next stop → Stops t limit most stop
     stops_out Full u =
-        let run = entry_run t a.limit (rows_of a) g.sound.grown i g.known in
-        crowded t a.limit a.most (rows_of a) _ end g.sound.grown (omega (arith, a.reached.ok.0, u.1, g.sound.within)) u.0
+        let run = entry_run t limit (rows_of a) g.sound.grown i g.known in
+        crowded t limit most (rows_of a) _ end g.sound.grown (omega (arith, a.reached.ok.0, u.1, g.sound.within)) u.0
         (omega (arith, deeper)) (more step end run out)
     stops_out NoMemory u = tt
 
-    module _ (b : Tree) (alike : AlikeBounds a b) where
-      old : Seen (rows_of a) end → rows_of b ≡ rows_of a → Reaches t a i step true b
+    module _ (b : Tree) where
+      old : Seen (rows_of a) end → rows_of b ≡ rows_of a → Reaches t limit most a i step true b
       old seen same = (
-        growing_same t a b i alike same (omega (arith, a.reached.ok.0, b.reached.ok.0, ap length same)) g,
+        growing_same t limit most a b i same (omega (arith, a.reached.ok.0, b.reached.ok.0, ap length same)) g,
         front_same (rows_of a) (rows_of b) same,
         (end, out, rw same (known_seen (rows_of a) end _ g.ahead seen)),
       )
 
-      new : (Seen (rows_of a) end → ⊥) → rows_of b ≡ rows_of a ++ next ∷ [] → vec_len b.reached ≤ a.most → Reaches t a i step true b
+      new : (Seen (rows_of a) end → ⊥) → rows_of b ≡ rows_of a ++ next ∷ [] → vec_len b.reached ≤ most → Reaches t limit most a i step true b
       new fresh push within =
           let front : Front (rows_of a) (rows_of b) = rw push (front_push (rows_of a) next) in
           let grown = grown_next fresh in
           let longer = length_push (rows_of a) next in (
             record {
-              sound = record { grown = rw alike.0 (rw push grown); within = rw alike.1 within };
+              sound = record { grown = rw push grown; within = within };
               known = (front i g.known).0;
               ahead = λ j l.
                   omega (
@@ -101,5 +98,5 @@ module _ (t : Task) (a : Tree) (i : ℕ) (x : Reached) (g : Growing t a i) (read
             (end, out, rw push (rw (← deeper) (known_push (rows_of a) next))),
           )
 
-      pub taken_out : Remembered a next b → Reaches t a i step true b
+      pub taken_out : Remembered most a next b → Reaches t limit most a i step true b
       taken_out = ⊎_elim (λ r. old r.0 r.1) (λ r. new r.0 r.1 r.2)

@@ -1,16 +1,10 @@
 -- The way back from an entry to the first state, read forward.
-use Rattle.std.proofs.Common.{◌≡◌, ℕ, ◌<◌, List, [], ◌∷◌, ◌++◌, length, get_or, sym, refl, subst, arith}
+use Rattle.std.proofs.Common.{◌≡◌, ℕ, ◌<◌, List, [], ◌∷◌, ◌++◌, length, get_or, sym, subst, arith}
 use Rattle.std.proofs.lemmas.List.{length_push}
-use Rattle.problem.specs.Firm.{Task, FirmStep}
-use Rattle.problem.specs.Runs.{Leads}
 use Rattle.plain.specs.Trees.{Branch, LeadTo}
 use Rattle.plain.specs.declared.reached.Reached.{Reached}
 use Rattle.plain.proofs.Trees.{entry_read}
-
--- one firm step more
-pub leads_push : (t : Task) (steps : List ℕ) (s mid step end : ℕ) → Leads t s steps mid → FirmStep t mid step end → Leads t s (steps ++ step ∷ []) end
-leads_push t [] s mid step end e f = (end, subst (λ (x : ℕ). FirmStep t x step end) (sym e) f, refl)
-leads_push t (x ∷ xs) s mid step end l f = (l.0, l.1, leads_push t xs l.0 mid step end l.2 f)
+use Rattle.problem.proofs.Running.{leads_push}
 
 pub lead_more : (rows : List Reached) (i : ℕ) (x : Reached) (steps items : List ℕ) → 0 < i → i < length rows → x ≡ get_or rows i x
     → LeadTo rows x.from steps → items ≡ steps ++ x.step ∷ [] → LeadTo rows i items

@@ -1,12 +1,12 @@
 -- Steps made wider, action by action.
-use Rattle.std.proofs.Common.{◌≡◌, ℕ, ◌+◌, ◌<◌, ◌≤◌, Bool, true, false, ◌⊎◌, List, length, sym, refl, ap, ◌∙◌, subst, inl, inr, ⊎_elim, arith}
+use Rattle.std.proofs.Common.{◌≡◌, ℕ, ◌+◌, ◌<◌, ◌≤◌, Bool, true, false, ◌⊎◌, List, length, sym, refl, ap, subst, inl, inr, ⊎_elim, arith}
 use native.Mathlib.Decide.{ℕ_discrete}
 use lib.Bits.{bit_or}
 use Rattle.sets.specs.Sets.{bit, Has, Inside, Marks}
 use Rattle.sets.proofs.Bits.{bit_of_or, bit_digit, same_members, has?}
 use Rattle.problem.specs.Firm.{Task, FirmStep}
 use Rattle.plain.specs.Trees.{entry, Known, Front}
-use Rattle.plain.specs.Growth.{rows_of, Growing, AlikeBounds, Taken, Wider, TakenFrom, Reaches, Grows}
+use Rattle.plain.specs.Growth.{rows_of, Growing, Taken, Wider, TakenFrom, Reaches, Grows}
 use Rattle.plain.specs.declared.reached.Reached.{Reached}
 use Rattle.plain.specs.declared.tree.Tree.{Tree}
 use Rattle.problem.proofs.Running.{parts_firm, one_end}
@@ -82,52 +82,42 @@ module _ (t : Task) (limit : ℕ) (x : Reached) (few : t.count ≤ 64) (step act
           absurd (no-firm room p.0 p.1))
     ]
 
--- a tree whose entry i stands where it stood, and which may grow as far
-moved : (t : Task) (a b : Tree) (i step action : ℕ) (rows : List Reached) → AlikeBounds a b → Front (rows_of a) (rows_of b) → i < length (rows_of a)
-    → TakenFrom t b.limit rows (entry (rows_of b) i) step action → TakenFrom t a.limit rows (entry (rows_of a) i) step action
-moved t a b i step action rows alike front lt h =
-    subst (λ (n : ℕ). TakenFrom t n rows (entry (rows_of a) i) step action) alike.0
-    (subst (λ (x : Reached). TakenFrom t b.limit rows x step action) (front i lt).1 h)
-
-alike_along : (a b c : Tree) → AlikeBounds a b → AlikeBounds b c → AlikeBounds a c
-alike_along a b c ab bc = (bc.0 ∙ ab.0, bc.1 ∙ ab.1)
+-- a tree whose entry i stands where it stood
+moved : (t : Task) (limit : ℕ) (a b : Tree) (i step action : ℕ) (rows : List Reached) → Front (rows_of a) (rows_of b) → i < length (rows_of a)
+    → TakenFrom t limit rows (entry (rows_of b) i) step action → TakenFrom t limit rows (entry (rows_of a) i) step action
+moved t limit a b i step action rows front lt h = subst (λ (x : Reached). TakenFrom t limit rows x step action) (front i lt).1 h
 
 -- past the last action nothing is left
-pub grows_none : (t : Task) → t.count ≤ 64 → (a : Tree) (i step action : ℕ) → Growing t a i → t.count ≤ action → Grows t a i step action a
-grows_none t few a i step action g past =
-    (g, front_same (rows_of a) (rows_of a) refl, none_wider t a.limit (entry (rows_of a) i) few step action (rows_of a) past)
+pub grows_none : (t : Task) (limit most : ℕ) → t.count ≤ 64 → (a : Tree) (i step action : ℕ) → Growing t limit most a i → t.count ≤ action
+    → Grows t limit most a i step action a
+grows_none t limit most few a i step action g past =
+    (g, front_same (rows_of a) (rows_of a) refl, none_wider t limit (entry (rows_of a) i) few step action (rows_of a) past)
 
-module _ (t : Task) (few : t.count ≤ 64) (a : Tree) (i step action one wider : ℕ) (g : Growing t a i)
+module _ (t : Task) (limit most : ℕ) (few : t.count ≤ 64) (a : Tree) (i step action one wider : ℕ) (g : Growing t limit most a i)
     (is : wider ≡ bit_or step one) (mark : Marks one (λ k. (k ≡ action) × (k < 64))) (lt : action < t.count) where
   -- the widened step was taken, every step wider than that, and then every other one
-  pub grows_with : (b c m d : Tree) (took : Bool) → took ≡ true → m ≡ c → AlikeBounds a b → AlikeBounds b c → AlikeBounds m d
-      → Reaches t a i wider took b → Grows t b i wider (action + 1) c → Grows t m i step (action + 1) d → AlikeBounds a d × Grows t a i step action d
-  grows_with b c m d took yes-taken e ab bc md reach s grow =
-      let r : Reaches t a i wider true b = subst (λ (k : Bool). Reaches t a i wider k b) yes-taken reach in
-      let u : Grows t c i step (action + 1) d = subst (λ (y : Tree). Grows t y i step (action + 1) d) e grow in
-      let ac : Front (rows_of a) (rows_of c) = front_along (rows_of a) (rows_of b) (rows_of c) r.1 s.1 in
-      let alike : AlikeBounds a c = alike_along a b c ab bc in (
-        alike_along a c d alike (subst (λ (y : Tree). AlikeBounds y d) e md),
-        (
-          u.0,
-          front_along (rows_of a) (rows_of c) (rows_of d) ac u.1,
-          more_taken t a.limit (entry (rows_of a) i) few step action one wider is mark lt (rows_of b) (rows_of c) (rows_of d) s.1 u.1 r.2
-              (moved t a b i wider (action + 1) (rows_of c) ab r.1 g.known s.2)
-              (moved t a c i step (action + 1) (rows_of d) alike ac g.known u.2),
-        ),
+  pub grows_with : (b c m d : Tree) (took : Bool) → took ≡ true → m ≡ c
+      → Reaches t limit most a i wider took b → Grows t limit most b i wider (action + 1) c → Grows t limit most m i step (action + 1) d
+      → Grows t limit most a i step action d
+  grows_with b c m d took yes-taken e reach s grow =
+      let r : Reaches t limit most a i wider true b = subst (λ (k : Bool). Reaches t limit most a i wider k b) yes-taken reach in
+      let u : Grows t limit most c i step (action + 1) d = subst (λ (y : Tree). Grows t limit most y i step (action + 1) d) e grow in
+      let ac : Front (rows_of a) (rows_of c) = front_along (rows_of a) (rows_of b) (rows_of c) r.1 s.1 in (
+        u.0,
+        front_along (rows_of a) (rows_of c) (rows_of d) ac u.1,
+        more_taken t limit (entry (rows_of a) i) few step action one wider is mark lt (rows_of b) (rows_of c) (rows_of d) s.1 u.1 r.2
+            (moved t limit a b i wider (action + 1) (rows_of c) r.1 g.known s.2)
+            (moved t limit a c i step (action + 1) (rows_of d) ac g.known u.2),
       )
 
   -- it was not, and every other one was
-  pub grows_without : (b m d : Tree) (took : Bool) → took ≡ false → m ≡ b → AlikeBounds a b → AlikeBounds m d
-      → Reaches t a i wider took b → Grows t m i step (action + 1) d → AlikeBounds a d × Grows t a i step action d
-  grows_without b m d took not_taken e ab md reach grow =
-      let r : Reaches t a i wider false b = subst (λ (k : Bool). Reaches t a i wider k b) not_taken reach in
-      let u : Grows t b i step (action + 1) d = subst (λ (y : Tree). Grows t y i step (action + 1) d) e grow in (
-        alike_along a b d ab (subst (λ (y : Tree). AlikeBounds y d) e md),
-        (
-          u.0,
-          front_along (rows_of a) (rows_of b) (rows_of d) r.1 u.1,
-          none_taken t a.limit (entry (rows_of a) i) few step action one wider is mark lt (rows_of b) (rows_of d) r.2
-              (moved t a b i step (action + 1) (rows_of d) ab r.1 g.known u.2),
-        ),
+  pub grows_without : (b m d : Tree) (took : Bool) → took ≡ false → m ≡ b
+      → Reaches t limit most a i wider took b → Grows t limit most m i step (action + 1) d → Grows t limit most a i step action d
+  grows_without b m d took not_taken e reach grow =
+      let r : Reaches t limit most a i wider false b = subst (λ (k : Bool). Reaches t limit most a i wider k b) not_taken reach in
+      let u : Grows t limit most b i step (action + 1) d = subst (λ (y : Tree). Grows t limit most y i step (action + 1) d) e grow in (
+        u.0,
+        front_along (rows_of a) (rows_of b) (rows_of d) r.1 u.1,
+        none_taken t limit (entry (rows_of a) i) few step action one wider is mark lt (rows_of b) (rows_of d) r.2
+            (moved t limit a b i step (action + 1) (rows_of d) r.1 g.known u.2),
       )

@@ -13,31 +13,27 @@ use Rattle.plain.specs.declared.tree.Tree.{Tree}
 abbrev pub rows_of : Tree → List Reached
 rows_of tree = vec_items tree.reached
 
--- a tree of the task, with no more entries than it may have
-pub record TreeOf (t : Task) (tree : Tree) : Type 0 where
-  pub grown : Grown t tree.limit (rows_of tree)
-  pub within : vec_len tree.reached ≤ tree.most
+-- a tree of the task within the limit, with at most so many entries
+pub record TreeOf (t : Task) (limit most : ℕ) (tree : Tree) : Type 0 where
+  pub grown : Grown t limit (rows_of tree)
+  pub within : vec_len tree.reached ≤ most
 
 -- a tree of the task whose entry i is being taken further: no entry is more than one step deeper
-pub record Growing (t : Task) (tree : Tree) (i : ℕ) : Type 0 where
-  pub sound : TreeOf t tree
+pub record Growing (t : Task) (limit most : ℕ) (tree : Tree) (i : ℕ) : Type 0 where
+  pub sound : TreeOf t limit most tree
   pub known : i < length (rows_of tree)
   pub ahead : (j : ℕ) → j < length (rows_of tree) → (entry (rows_of tree) j).depth ≤ (entry (rows_of tree) i).depth + 1
 
--- how far and how much they may grow is the same
-abbrev pub AlikeBounds : Tree → Tree → Type 0
-AlikeBounds a b = (b.limit ≡ a.limit) × (b.most ≡ a.most)
-
 -- b is a with e behind the others, unless e's state was there already
-abbrev pub Remembered : Tree → Reached → Tree → Type 0
-Remembered a e b =
+abbrev pub Remembered : ℕ → Tree → Reached → Tree → Type 0
+Remembered most a e b =
     (Seen (rows_of a) e.state × (rows_of b ≡ rows_of a))
-    ⊎ ((Seen (rows_of a) e.state → ⊥) × (rows_of b ≡ rows_of a ++ e ∷ []) × (vec_len b.reached ≤ a.most))
+    ⊎ ((Seen (rows_of a) e.state → ⊥) × (rows_of b ≡ rows_of a ++ e ∷ []) × (vec_len b.reached ≤ most))
 
 -- why it could not be remembered
-abbrev pub Unremembered : Tree → Reached → Stop → Type 0
-Unremembered a e Full = (Seen (rows_of a) e.state → ⊥) × (a.most ≤ vec_len a.reached)
-Unremembered a e NoMemory = Unit {0}
+abbrev pub Unremembered : ℕ → Tree → Reached → Stop → Type 0
+Unremembered most a e Full = (Seen (rows_of a) e.state → ⊥) × (most ≤ vec_len a.reached)
+Unremembered most a e NoMemory = Unit {0}
 
 -- why a tree of the task with these bounds stops growing
 abbrev pub Stops : Task → ℕ → ℕ → Stop → Type 0
@@ -59,10 +55,10 @@ TakenFrom t limit rows e step action =
     e.depth < limit → (wide end : ℕ) → Wider step action wide → FirmStep t e.state wide end → Known rows end (e.depth + 1)
 
 -- b is a, which keeps its place i, after the step was taken or not; after every wider step was
-abbrev pub Reaches : Task → Tree → ℕ → ℕ → Bool → Tree → Type 0
-Reaches t a i step took b =
-    Growing t b i × Front (rows_of a) (rows_of b) × Taken t a.limit (rows_of b) (entry (rows_of a) i) step took
+abbrev pub Reaches : Task → ℕ → ℕ → Tree → ℕ → ℕ → Bool → Tree → Type 0
+Reaches t limit most a i step took b =
+    Growing t limit most b i × Front (rows_of a) (rows_of b) × Taken t limit (rows_of b) (entry (rows_of a) i) step took
 
-abbrev pub Grows : Task → Tree → ℕ → ℕ → ℕ → Tree → Type 0
-Grows t a i step action b =
-    Growing t b i × Front (rows_of a) (rows_of b) × TakenFrom t a.limit (rows_of b) (entry (rows_of a) i) step action
+abbrev pub Grows : Task → ℕ → ℕ → Tree → ℕ → ℕ → ℕ → Tree → Type 0
+Grows t limit most a i step action b =
+    Growing t limit most b i × Front (rows_of a) (rows_of b) × TakenFrom t limit (rows_of b) (entry (rows_of a) i) step action

@@ -10,9 +10,6 @@ use Rattle.plain.specs.declared.found.Found.TheVariants.{Plan, NotWithin, Full}
 use Rattle.plain.specs.declared.found.Fault.{Fault}
 use Rattle.plain.specs.declared.found.Fault.TheVariants.{Declined, NoMemory}
 
-abbrev pub goal : ℕ → ℕ → Goal
-goal need avoid = record { need = need; avoid = avoid }
-
 -- the goal names only atoms of the task
 abbrev pub Named : Task → Goal → Type 0
 Named t g = Within t.atoms g.need × Within t.atoms g.avoid

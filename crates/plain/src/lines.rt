@@ -1,7 +1,7 @@
 ghost use Rattle.std.specs.Prelude.{◌≡◌, ◌++◌, IfOk, string_bytes, codes, decimal, OnOk};
 ghost use Rattle.plain.specs.Lines.{WrittenBehind};
 
-use sets::{lowest, without_one};
+use sets::members_of;
 use std::alloc::{AllocError, Global};
 
 // Writes a number behind a line, with a space before it.
@@ -16,11 +16,9 @@ fn put_number(heap: Global, line: &mut String, n: u32) -> Result<(), AllocError>
 fn put_members(heap: Global, line: &mut String, set: u64) -> Result<(), AllocError>
     ensures { OnOk result (WrittenBehind (string_bytes line.old) set (string_bytes line.new)) }
 {
-    let Some(member) = lowest(set) else {
-        return Ok(());
-    };
-    put_number(heap, line, member)?;
-    put_members(heap, line, without_one(set, member))?;
+    for member in members_of(set) {
+        put_number(heap, line, member)?;
+    }
     Ok(())
 }
 

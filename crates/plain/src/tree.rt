@@ -2,6 +2,7 @@ ghost use Rattle.std.specs.Prelude.{◌≡◌};
 ghost use Rattle.plain.specs.declared.tree.Stop.TheVariants.{NoMemory};
 
 use crate::reached::Reached;
+use problem::Problem;
 use std::alloc::{AllocError, AllocFailed};
 
 mod growing;
@@ -30,10 +31,16 @@ impl<T: Drop> From<AllocFailed<T>> for Stop {
     }
 }
 
-// The states reached so far: none in more than `limit` steps, and at most `most` of them.
+// What a tree grows by: the states of a problem, none in more than `limit` steps, and at most `most` of them.
+#[derive(Clone, Copy)]
+pub(crate) struct Bounds<'a> {
+    pub problem: &'a Problem<'a>,
+    pub limit: u8,
+    pub most: usize,
+}
+
+// The states reached so far. Each names the one before it by its place, since the list is the queue of the search as well.
 #[derive(Drop)]
 pub(crate) struct Tree {
     reached: Vec<Reached>,
-    limit: u8,
-    most: usize,
 }

@@ -1,13 +1,12 @@
 -- The frames and nodes of a path as a list of held positions.
-use Rattle.std.proofs.Common.{◌≡◌, ℕ, zero, suc, ◌+◌, ◌-◌, ◌*◌, ◌<◌, ◌≤◌, ◌≢◌, List, ◌∷◌, length, take, drop, set, sym, refl, ap, ◌∙◌, subst, ap₂, add-one, arith, get_or-set_other, get_or-set_same}
-use Rattle.std.proofs.lemmas.List.{take-take, get_or-take}
-use Rattle.problem.specs.Firm.{Task}
-use Rattle.regression.specs.Stacks.{node_in, part_of}
+use Rattle.std.proofs.Common.{◌≡◌, ℕ, zero, suc, ◌+◌, ◌-◌, ◌*◌, ◌<◌, ◌≤◌, ◌≢◌, List, ◌∷◌, length, take, set, sym, refl, ap, ◌∙◌, subst, ap₂, add-one, arith, get_or-set_other, get_or-set_same}
+use Rattle.std.proofs.lemmas.List.{take-take}
+use Rattle.regression.specs.Stacks.{part_of}
 use Rattle.regression.specs.declared.node.Node.{Node}
-use Rattle.store.specs.Positions.{Target}
+use Rattle.regression.proofs.Stacking.{part_kept}
 use Rattle.planner.specs.Frames.{frame_at, way}
 use Rattle.planner.specs.Paths.{Held, steps_of}
-use Rattle.planner.specs.Works.{position, lowest_of, holding, held, held_of, Sized, AllOrderly, Shape}
+use Rattle.planner.specs.Works.{position, lowest_of, holding, held, held_of, Sized}
 use Rattle.planner.specs.declared.frame.Frame.{Frame}
 use Rattle.planner.specs.declared.path.Path.{Path}
 
@@ -47,35 +46,6 @@ pub sized_room : (d : ℕ) (fs : List Frame) (end : ℕ) → Sized d fs end → 
 sized_room zero fs end x = omega arith
 sized_room (suc d) fs end x = omega (arith, sized_room d fs (frame_at fs d).base x.2, x.1)
 
--- the lowest is taken off
-pub closed_held : (d : ℕ) (fs : List Frame) (ns : List Node) (end : ℕ) → 0 < d
-    → held (d - 1) fs ns (frame_at fs (d - 1)).base ≡ drop 1 (held d fs ns end)
-closed_held d fs ns end h = sym (ap (λ (hs : List (Held (List Node))). drop 1 hs) (held_lowest d fs ns end h))
-
-pub closed_shape : (t : Task) (p : Path) → 0 < p.depth → Shape t p
-    → Shape t (record { frames = p.frames; depth = p.depth - 1; nodes = p.nodes; len = (frame_at p.frames (p.depth - 1)).base })
-closed_shape t p some x = record {
-  frames = x.frames;
-  nodes = x.nodes;
-  deep = omega (arith, x.deep);
-  sized = (sized_lowest p.depth p.frames p.len some x.sized).2;
-  orderly = (subst (λ (hs : List (Held (List Node))). AllOrderly t hs) (held_lowest p.depth p.frames p.nodes p.len some) x.orderly).1;
-}
-
-pub part_length : (ns : List Node) (b n : ℕ) → length (part_of ns b n) ≡ n
-part_length ns b zero = refl
-part_length ns b (suc n) = ap suc (part_length ns b n)
-
--- a part of the nodes depends only on what stands before its end
-node_same : (ns ns' : List Node) (end i : ℕ) → i < end → take end ns' ≡ take end ns → node_in ns' i ≡ node_in ns i
-node_same ns ns' end i lt same =
-    sym (get_or-take end ns' i _ lt) ∙ ap (λ (xs : List Node). node_in xs i) same ∙ get_or-take end ns i _ lt
-
-part_same : (ns ns' : List Node) (b end n : ℕ) → b + n ≤ end → take end ns' ≡ take end ns → part_of ns' b n ≡ part_of ns b n
-part_same ns ns' b end zero le same = refl
-part_same ns ns' b end (suc n) le same =
-    ap₂ ◌∷◌ (node_same ns ns' end (b + n) (omega arith) same) (part_same ns ns' b end n (omega arith) same)
-
 take_less : (ns ns' : List Node) (b end : ℕ) → b ≤ end → take end ns' ≡ take end ns → take b ns' ≡ take b ns
 take_less ns ns' b end le same = sym (take-take b end ns' le) ∙ ap (λ (xs : List Node). take b xs) same ∙ take-take b end ns le
 
@@ -86,7 +56,7 @@ held_same zero fs fs' ns ns' end alike same x = refl
 held_same (suc d) fs fs' ns ns' end alike same x =
     let f : Frame = frame_at fs d in
     ap (λ (e : Frame). holding e ns' end ∷ held d fs' ns' e.base) (alike d (omega arith))
-    ∙ ap (λ (w : List Node). record { position = position f; step = f.step; work = w } ∷ held d fs' ns' f.base) (part_same ns ns' f.base end (end - f.base) (omega (arith, x.0)) same)
+    ∙ ap (λ (w : List Node). record { position = position f; step = f.step; work = w } ∷ held d fs' ns' f.base) (part_kept ns' ns end f.base (end - f.base) same (omega (arith, x.0)))
     ∙ ap (λ (hs : List (Held (List Node))). holding f ns end ∷ hs)
     (held_same d fs fs' ns ns' f.base (λ i lt. alike i (omega arith)) (take_less ns ns' f.base end x.0 same) x.2)
 
@@ -127,9 +97,3 @@ module _ (p q : Path) (deep : p.depth ≡ q.depth) (same : p.frames ≡ q.frames
   lowest_is =
       held_lowest_of p.depth p.frames p.nodes p.len (omega arith)
       ∙ ap₂ (λ (d : ℕ) (fs : List Frame). position (frame_at fs (d - 1))) deep same
-
-  pub lowest_level : (f : Frame) → f ≡ frame_at q.frames (q.depth - 1) → 1 ≤ (frame_at q.frames (q.depth - 1)).level
-      → (lowest_of (held_of p)).level ≡ f.level - 1 + 1
-  lowest_level f is high =
-      let e : (frame_at q.frames (q.depth - 1)).level ≡ (frame_at q.frames (q.depth - 1)).level - 1 + 1 = omega arith in
-      ap (λ (r : Target). r.level) lowest_is ∙ e ∙ ap (λ (x : Frame). x.level - 1 + 1) (sym is)

@@ -2,29 +2,30 @@
 use Rattle.std.proofs.Common.{◌≡◌, ℕ, ◌+◌, ◌-◌, ◌<◌, ◌≤◌, List, [], ◌∷◌, ◌++◌, length, drop, Some, None, sym, refl, ap, ◌∙◌, subst, inl, inr, arith}
 use Rattle.sets.specs.Sets.{Apart}
 use Rattle.problem.specs.Firm.{Task}
-use Rattle.problem.specs.Runs.{Goal, Meets}
+use Rattle.problem.specs.Runs.{Meets}
 use Rattle.problem.specs.Problems.{Fits}
 use Rattle.regression.specs.declared.node.Node.{Node}
-use Rattle.store.specs.Positions.{Target, at}
+use Rattle.store.specs.Positions.{Target, target_of}
+use Rattle.store.specs.declared.position.Position.{Position}
 use Rattle.store.specs.Stores.{Meaning, Told}
 use Rattle.store.specs.declared.answer.Answer.{Answer}
 use Rattle.outlook.specs.Outlooks.{View}
-use Rattle.claim.specs.Search.{Question, Dropped, Open, Next, Search, begins}
-use Rattle.claim.specs.Turns.{Passes, plan_checks}
+use Rattle.claim.specs.Search.{Question, Open, Next, Search, begins}
+use Rattle.claim.specs.Turns.{NamedBelow, Passes, plan_checks}
 use Rattle.claim.specs.declared.outcome.Outcome.{Outcome}
-use Rattle.claim.specs.declared.outcome.Outcome.TheVariants.{Plan, NotWithin, Spent}
+use Rattle.claim.specs.declared.outcome.Outcome.TheVariants.{Plan, Spent}
 use Rattle.claim.proofs.Opening.{Chain}
 use Rattle.claim.proofs.Searching.{chain, within, room_to_tell}
 use Rattle.claim.proofs.Storing.{proper}
 use Rattle.claim.proofs.Turning.{named, unshared}
 use Rattle.planner.specs.Frames.{way}
-use Rattle.planner.specs.Paths.{Held, steps_of, AllStand, Sought, Offered, Ended}
-use Rattle.planner.specs.Works.{waits, may, lowest_of, Placed, held_of, Offers, Idle, Entered}
+use Rattle.planner.specs.Paths.{Held, steps_of, AllStand, Sought, Ended}
+use Rattle.planner.specs.Works.{waits, may, lowest_of, held, held_of, Offers, Idle, Entered}
 use Rattle.planner.specs.Endings.{Ran}
 use Rattle.planner.specs.declared.path.Path.{Path}
 use Rattle.planner.proofs.Holding.{held_length, held_way}
 use Rattle.planner.proofs.Written.{way_length}
-use Rattle.planner.proofs.Moves.{held_length as open-length, goal_dropped, goal_opened, goal_spent, all_failed, offered_opened, offered_spent, lowest_told}
+use Rattle.planner.proofs.Moves.{held_length as open-length, offered_opened, offered_spent, lowest_told}
 
 -- by the checks
 module _ (t : Task) (m : Meaning) (a : Question) (room : ℕ) (checks : Passes (plan_checks t m a room)) where
@@ -33,12 +34,6 @@ module _ (t : Task) (m : Meaning) (a : Question) (room : ℕ) (checks : Passes (
 
   goal_apart : Apart a.goal.need a.goal.avoid
   goal_apart = unshared a.goal.need a.goal.avoid checks.1.0
-
-  pub goal_placed : (n : ℕ) → 1 ≤ n → n ≤ a.limit → Placed t (at n a.goal)
-  goal_placed n low high = (
-    record { ranked = (low, omega (arith, short)); apart = goal_apart },
-    ((λ k h. named t.atoms a.goal checks.0 k (inl h)), λ k h. named t.atoms a.goal checks.0 k (inr h)),
-  )
 
   pub few_counts : m.kept + m.passed + a.budget ≤ 16000000
   few_counts = omega (arith, checks.1.1.1.1.1.0)
@@ -68,18 +63,18 @@ module _ (t : Task) (v : View) (a : Question) (m₀ m : Meaning) (n k : ℕ) whe
       go [] c y e = absurd y
       go (o ∷ os) c y e = omega (arith, c.0, ap (λ (r : Target). r.level) y.0.position)
 
-  -- and is a position of the task; the store has room to be told
+  -- and names atoms of the task; the store has room to be told
   module _ (fits : Fits t) (room : ℕ) (checks : Passes (plan_checks t m₀ a room)) where
-    pub lowest_placed : (hs : List (Held (List Node))) → 0 < length hs → Sought (waits t) may t v a m₀ m n hs k → Placed t (lowest_of hs)
-    lowest_placed [] some s = absurd (let z : ⊥ = omega arith in z)
-    lowest_placed (h ∷ hs) some s = go s.os s.search s.stand
+    pub lowest_named : (hs : List (Held (List Node))) → 0 < length hs → Sought (waits t) may t v a m₀ m n hs k → NamedBelow t.atoms (lowest_of hs).goal
+    lowest_named [] some s = absurd (let z : ⊥ = omega arith in z)
+    lowest_named (h ∷ hs) some s = go s.os s.search s.stand
       where
-        go : (os : List Open) → Search t v a m₀ n os s.log m → AllStand (waits t) may t v m s.log None (h ∷ hs) os → Placed t h.position
+        go : (os : List Open) → Search t v a m₀ n os s.log m → AllStand (waits t) may t v m s.log None (h ∷ hs) os → NamedBelow t.atoms h.position.goal
         go [] x y = absurd y
         go (o ∷ os) x y =
             let p = (proper fits (short t m₀ a room checks) (goal_apart t m₀ a room checks) (named t.atoms a.goal checks.0) x).0 in
-            subst (λ (r : Target). Placed t r) y.0.position
-            (record { ranked = (p.low, p.high); apart = p.apart }, ((λ j h. p.named j (inl h)), λ j h. p.named j (inr h)))
+            subst (λ (r : Target). NamedBelow t.atoms r.goal) y.0.position
+            ((λ j h. p.named j (inl h)), λ j h. p.named j (inr h))
 
     pub tell_room : (hs : List (Held (List Node))) → 0 < length hs → Sought (waits t) may t v a m₀ m n hs k → m.kept + m.passed < 16000000
     tell_room hs some s = go s.os s.search (open-length (waits t) may t v m s.log None hs s.os s.stand)
@@ -88,73 +83,48 @@ module _ (t : Task) (v : View) (a : Question) (m₀ m : Meaning) (n k : ℕ) whe
         go [] x e = absurd (let z : ⊥ = omega arith in z)
         go (o ∷ os) x e = omega (arith, room_to_tell o x, few_counts t m₀ a room checks)
 
--- the turns where nothing is held
-pub nothing_held : (p : Path) → p.depth ≡ 0 → length (held_of p) ≡ 0
-nothing_held p none = held_length p.depth p.frames p.nodes p.len ∙ none
+-- where nothing is open, nothing is held
+pub nothing_held : (p : Path) → p.depth ≡ 0 → held_of p ≡ []
+nothing_held p none = ap (λ (d : ℕ). held d p.frames p.nodes p.len) none
 
 module _ {t : Task} {v : View} {a : Question} {m₀ m : Meaning} {n k : ℕ} where
-  pub round_dropped : (hs : List (Held (List Node))) → length hs ≡ 0 → n < a.limit → (Meets a.goal t.first → ⊥)
-      → Dropped v m (at (n + 1) a.goal) → Sought (waits t) may t v a m₀ m n hs k → Sought (waits t) may t v a m₀ m (n + 1) hs k
-  round_dropped [] none lt fails d s = goal_dropped s lt fails d
-  round_dropped (h ∷ hs) none lt fails d s = absurd (let z : ⊥ = omega arith in z)
-
-  pub round_opened : (p p' : Path) → length (held_of p) ≡ 0 → n < a.limit → (Meets a.goal t.first → ⊥)
-      → (Dropped v m (at (n + 1) a.goal) → ⊥) → k < a.budget → Entered t p (at (n + 1) a.goal) 0 p'
-      → Sought (waits t) may t v a m₀ m n (held_of p) k → Sought (waits t) may t v a m₀ m (n + 1) (held_of p') (k + 1)
-  round_opened p p' none lt fails d room x s = subst (λ (ys : List (Held (List Node))). Sought (waits t) may t v a m₀ m (n + 1) ys (k + 1)) (sym x.is) (go (held_of p) none s)
-    where
-      go : (hs : List (Held (List Node))) → length hs ≡ 0 → Sought (waits t) may t v a m₀ m n hs k
-          → Sought (waits t) may t v a m₀ m (n + 1) (record { position = at (n + 1) a.goal; step = 0; work = x.work } ∷ hs) (k + 1)
-      go [] none s = goal_opened x.work s lt fails d room x.begun
-      go (h ∷ hs) none s = absurd (let z : ⊥ = omega arith in z)
-
-  pub round_spent : (hs : List (Held (List Node))) → length hs ≡ 0 → n < a.limit → (Meets a.goal t.first → ⊥)
-      → (Dropped v m (at (n + 1) a.goal) → ⊥) → k ≡ a.budget → Sought (waits t) may t v a m₀ m n hs k → Ended t v a m₀ m Spent [] k 0
-  round_spent [] none lt fails d full s = goal_spent s lt fails d full
-  round_spent (h ∷ hs) none lt fails d full s = absurd (let z : ⊥ = omega arith in z)
-
-  pub rounds_failed : (hs : List (Held (List Node))) → length hs ≡ 0 → n ≡ a.limit → (Meets a.goal t.first → ⊥)
-      → Sought (waits t) may t v a m₀ m n hs k → Ended t v a m₀ m NotWithin [] k 0
-  rounds_failed [] none e fails s = all_failed s e fails
-  rounds_failed (h ∷ hs) none e fails s = absurd (let z : ⊥ = omega arith in z)
-
   -- the turns below the lowest position
-  pub below_opened : (p p' : Path) (l step : ℕ) (q : Goal) → (lowest_of (held_of p)).level ≡ l + 1 → k < a.budget
-      → Offers t v a m₀ m n (held_of p) k step q → Entered t p (at l q) step p' → Sought (waits t) may t v a m₀ m n (held_of p') (k + 1)
-  below_opened p p' l step q e room offers x =
-      subst (λ (ys : List (Held (List Node))). Sought (waits t) may t v a m₀ m n ys (k + 1)) (sym x.is) (go (held_of p) e offers)
+  pub below_opened : (p p' : Path) (step : ℕ) (q : Target) → k < a.budget
+      → Offers t v a m₀ m n (held_of p) k step q → Entered t p q step p' → Sought (waits t) may t v a m₀ m n (held_of p') (k + 1)
+  below_opened p p' step q room offers x =
+      subst (λ (ys : List (Held (List Node))). Sought (waits t) may t v a m₀ m n ys (k + 1)) (sym x.is) (go (held_of p) offers)
     where
-      go : (hs : List (Held (List Node))) → (lowest_of hs).level ≡ l + 1 → Offers t v a m₀ m n hs k step q
-          → Sought (waits t) may t v a m₀ m n (record { position = at l q; step = step; work = x.work } ∷ hs) (k + 1)
-      go [] e y = absurd y
-      go (h ∷ hs) e y =
-          let is : h.position.level - 1 ≡ l = omega arith in
-          offered_opened step (at l q) x.work (subst (λ (j : ℕ). Offered (waits t) may t v a m₀ m n h hs k step (at j q)) is y) room x.begun
+      go : (hs : List (Held (List Node))) → Offers t v a m₀ m n hs k step q
+          → Sought (waits t) may t v a m₀ m n (record { position = q; step = step; work = x.work } ∷ hs) (k + 1)
+      go [] y = absurd y
+      go (h ∷ hs) y = offered_opened step q x.work y room x.begun
 
-  pub below_told : (p p' : Path) (b : Answer) (m' : Meaning) → 1 ≤ (lowest_of (held_of p)).level → Idle t v (held_of p) → Told m (lowest_of (held_of p)) b m'
-      → held_of p' ≡ drop 1 (held_of p) → Sought (waits t) may t v a m₀ m n (held_of p) k → Sought (waits t) may t v a m₀ m' n (held_of p') k
-  below_told p p' b m' low idle tell rest s = subst (λ (ys : List (Held (List Node))). Sought (waits t) may t v a m₀ m' n ys k) (sym rest) (go (held_of p) low idle tell s)
+  pub below_told : (p p' : Path) (b : Answer) (m' : Meaning) (q : Position) → target_of q ≡ lowest_of (held_of p) → Idle t v (held_of p)
+      → Told m (target_of q) b m' → held_of p' ≡ drop 1 (held_of p)
+      → Sought (waits t) may t v a m₀ m n (held_of p) k → Sought (waits t) may t v a m₀ m' n (held_of p') k
+  below_told p p' b m' q is idle tell rest s =
+      subst (λ (ys : List (Held (List Node))). Sought (waits t) may t v a m₀ m' n ys k) (sym rest) (go (held_of p) is idle s)
     where
-      go : (hs : List (Held (List Node))) → 1 ≤ (lowest_of hs).level → Idle t v hs → Told m (lowest_of hs) b m' → Sought (waits t) may t v a m₀ m n hs k
+      go : (hs : List (Held (List Node))) → target_of q ≡ lowest_of hs → Idle t v hs → Sought (waits t) may t v a m₀ m n hs k
           → Sought (waits t) may t v a m₀ m' n (drop 1 hs) k
-      go [] low idle tell s = absurd idle
-      go (h ∷ hs) low idle tell s = lowest_told (h.position.level - 1) b m' (omega arith) idle tell s
+      go [] is idle s = absurd idle
+      go (h ∷ hs) is idle s =
+          lowest_told (h.position.level - 1) b m' (omega (arith, q.low, ap (λ (r : Target). r.level) is)) idle (subst (λ (r : Target). Told m r b m') is tell) s
 
-pub below_spent : {t : Task} {v : View} {a : Question} {m₀ m : Meaning} {k : ℕ} (n : ℕ) (hs : List (Held (List Node))) (step : ℕ) (q : Goal)
+pub below_spent : {t : Task} {v : View} {a : Question} {m₀ m : Meaning} {k : ℕ} (n : ℕ) (hs : List (Held (List Node))) (step : ℕ) (q : Target)
     → k ≡ a.budget → Offers t v a m₀ m n hs k step q → Ended t v a m₀ m Spent [] k (length hs)
 below_spent n [] step q full y = absurd y
-below_spent n (h ∷ hs) step q full y = offered_spent step (at (h.position.level - 1) q) y full
+below_spent n (h ∷ hs) step q full y = offered_spent step q y full
 
 -- what is offered lies one level below the lowest, from level 1 on
-pub offers_low : (t : Task) (v : View) (a : Question) (m₀ m : Meaning) (n k : ℕ) (hs : List (Held (List Node))) (step : ℕ) (q : Goal)
+pub offers_low : (t : Task) (v : View) (a : Question) (m₀ m : Meaning) (n k : ℕ) (hs : List (Held (List Node))) (step : ℕ) (q : Target)
     → Offers t v a m₀ m n hs k step q → 2 ≤ (lowest_of hs).level
 offers_low t v a m₀ m n k [] step q y = absurd y
 offers_low t v a m₀ m n k (h ∷ hs) step q y = go y.os y.next y.stand
   where
-    go : (os : List Open) → Next t v a m n os step (at (h.position.level - 1) q)
-        → AllStand (waits t) may t v m y.log (Some (at (h.position.level - 1) q)) (h ∷ hs) os → 2 ≤ h.position.level
+    go : (os : List Open) → Next t v a m n os step q → AllStand (waits t) may t v m y.log (Some q) (h ∷ hs) os → 2 ≤ h.position.level
     go [] x z = absurd z
-    go (o ∷ os) x z = omega (arith, x.0.level)
+    go (o ∷ os) x z = omega (arith, x.0.level, x.0.lower, ap (λ (r : Target). r.level) z.0.position)
 
 -- how a search ends, with what it leaves in the list
 module _ {t : Task} {v : View} {a : Question} {m : Meaning} where

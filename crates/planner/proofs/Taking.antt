@@ -6,12 +6,10 @@ use Rattle.problem.specs.Actions.{Action}
 use Rattle.problem.specs.Firm.{Task}
 use Rattle.problem.specs.Runs.{Goal}
 use Rattle.problem.specs.declared.rows.EffectRow.{EffectRow}
-use Rattle.regression.specs.Regions.{region_goal}
 use Rattle.regression.specs.Matters.{ActionNames as Names}
-use Rattle.regression.specs.Stacks.{part_of, Slim, Orderly, Carried, Brings}
+use Rattle.regression.specs.Stacks.{part_of, Orderly, Carried, Brings}
 use Rattle.regression.specs.declared.node.Node.{Node}
 use Rattle.regression.specs.declared.found.Due.{Due}
-use Rattle.store.specs.Positions.{goal_of}
 use Rattle.outlook.specs.Outlooks.{View}
 use Rattle.claim.specs.Search.{ActionNames}
 use Rattle.planner.specs.Frames.{frame_at}
@@ -19,7 +17,8 @@ use Rattle.planner.specs.Paths.{Pruned, Held, Gave, Done as Emptied}
 use Rattle.planner.specs.Works.{waits, may, position, holding, held, held_of, Sized, AllOrderly, Shape, Took}
 use Rattle.planner.specs.declared.frame.Frame.{Frame}
 use Rattle.planner.specs.declared.path.Path.{Path}
-use Rattle.planner.proofs.Holding.{part_length, held_lowest, held_same, sized_lowest, sized_again, sized_room}
+use Rattle.regression.proofs.Stacking.{part_fits}
+use Rattle.planner.proofs.Holding.{held_lowest, held_same, sized_lowest, sized_again, sized_room}
 
 -- an atom that an action names is one that its precondition or an effect names
 named_so : (a : Action) (k : ℕ) → Names a k → ActionNames a k
@@ -38,14 +37,10 @@ named_so a k (inr h) =
       ],
     )
 
-slim_length : (ns : List Node) → Slim ns → length ns ≤ 129
-slim_length [] x = omega arith
-slim_length (n ∷ ns) x = omega (arith, x.0)
-
 module _ (t : Task) (v : View) (l : ℕ) (q : Goal) (before after : List Node) (orderly : Orderly t q before) where
   -- what is made due was given
   gave_of : (due : Due) → Brings t q (Pruned t v l) before after due.step due.region
-      → Gave (waits t) may t v l q before due.step (region_goal due.region) after
+      → Gave (waits t) may t v l q before due.step due.region after
   gave_of due x = record {
     apart = x.apart;
     leads = λ s meets. let r = x.leads s meets in (r.end, r.firm, r.meets);
@@ -68,7 +63,7 @@ emptied_of t v l q before x s part w = elim (x.pairs s part w.0 w.1) [ inl y ↦
 -- the lowest position is that of the frame f
 module _ (t : Task) (v : View) (p : Path) (f : Frame) (is : f ≡ frame_at p.frames (p.depth - 1)) (some : 0 < p.depth) (x : Shape t p) where
   abbrev goal : Goal
-  goal = goal_of f.need f.avoid
+  goal = f.position.goal
 
   abbrev before : List Node
   before = part_of p.nodes f.base (p.len - f.base)
@@ -85,9 +80,6 @@ module _ (t : Task) (v : View) (p : Path) (f : Frame) (is : f ≡ frame_at p.fra
   lowest_sized =
       subst (λ (e : Frame). (e.base ≤ p.len) × (p.len ≤ e.base + 129) × Sized (p.depth - 1) p.frames e.base) (sym is)
       (sized_lowest p.depth p.frames p.len some x.sized)
-
-  pub based : f.base ≤ p.len
-  based = lowest_sized.0
 
   all_orderly : Orderly t goal before × AllOrderly t others
   all_orderly = subst (λ (hs : List (Held (List Node))). AllOrderly t hs) lowest_held x.orderly
@@ -115,7 +107,7 @@ module _ (t : Task) (v : View) (p : Path) (f : Frame) (is : f ≡ frame_at p.fra
 
     later_shape : Orderly t goal (part_of ns f.base left) → Shape t later
     later_shape o =
-        let few : left ≤ 129 = omega (arith, slim_length (part_of ns f.base left) o.slim, part_length ns f.base left) in
+        let few : left ≤ 129 = part_fits t goal ns f.base left o in
         let base = ap (λ (e : Frame). e.base) is in
         record {
           frames = x.frames;
@@ -126,24 +118,24 @@ module _ (t : Task) (v : View) (p : Path) (f : Frame) (is : f ≡ frame_at p.fra
           orderly = subst (λ (hs : List (Held (List Node))). AllOrderly t hs) (sym later_held) (o, all_orderly.1);
         }
 
-    module _ (due : Due) (brings : Brings t goal (Pruned t v (f.level - 1)) before (part_of ns f.base left) due.step due.region) where
+    module _ (due : Due) (brings : Brings t goal (Pruned t v (f.position.level - 1)) before (part_of ns f.base left) due.step due.region) where
       pub took_due : Took t v (held_of p) (Some due) (held_of later)
       took_due =
           subst (λ (hs : List (Held (List Node))). Took t v hs (Some due) (held_of later)) (sym lowest_held)
-          (part_of ns f.base left, later_held, gave_of t v (f.level - 1) goal before (part_of ns f.base left) all_orderly.0 due brings, brings.less)
+          (part_of ns f.base left, later_held, gave_of t v (f.position.level - 1) goal before (part_of ns f.base left) all_orderly.0 due brings, brings.less)
 
       pub due_shape : Shape t later
       due_shape = later_shape (brings.carried.orderly all_orderly.0)
 
       pub due_few : left ≤ 129
-      due_few = omega (arith, slim_length (part_of ns f.base left) (brings.carried.orderly all_orderly.0).slim, part_length ns f.base left)
+      due_few = part_fits t goal ns f.base left (brings.carried.orderly all_orderly.0)
 
   module _ (ns : List Node) (long : length ns ≡ length p.nodes) (same : take f.base ns ≡ take f.base p.nodes)
-      (carried : Carried t goal (Pruned t v (f.level - 1)) (λ _. ⊥) before []) where
+      (carried : Carried t goal (Pruned t v (f.position.level - 1)) (λ _. ⊥) before []) where
     pub took_none : Took t v (held_of p) None (held_of (record { frames = p.frames; depth = p.depth; nodes = ns; len = f.base }))
     took_none =
         subst (λ (hs : List (Held (List Node))). Took t v hs None (held_of (record { frames = p.frames; depth = p.depth; nodes = ns; len = f.base }))) (sym lowest_held)
-        (later_held ns long same 0 f.base (omega arith), emptied_of t v (f.level - 1) goal before carried)
+        (later_held ns long same 0 f.base (omega arith), emptied_of t v (f.position.level - 1) goal before carried)
 
     pub none_shape : Shape t (record { frames = p.frames; depth = p.depth; nodes = ns; len = f.base })
     none_shape = later_shape ns long same 0 f.base (omega arith) (carried.orderly all_orderly.0)

@@ -1,4 +1,3 @@
-pub mod Questions
 pub mod Paths
 pub mod Frames
 pub mod Endings

@@ -6,7 +6,7 @@ use Rattle.problem.specs.Runs.{Goal, Meets}
 use Rattle.store.specs.Positions.{Target}
 use Rattle.store.specs.Stores.{Meaning, Covered}
 use Rattle.outlook.specs.Outlooks.{View, Barred}
-use Rattle.claim.specs.Lists.{Among}
+use Rattle.sets.specs.Listed.{Among}
 use Rattle.claim.specs.Turns.{Ends}
 use Rattle.claim.specs.declared.outcome.Outcome.{Outcome}
 use Rattle.claim.specs.Search.{Question, ActionNames, GoalNames, Open, Next, Event, Search, WasTold, opened_in}

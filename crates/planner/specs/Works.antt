@@ -2,16 +2,14 @@
 use Rattle.std.specs.Prelude.{◌≡◌, ℕ, zero, suc, ◌+◌, ◌-◌, ◌<◌, ◌≤◌, List, [], ◌∷◌, length, Some, None, Option}
 use Rattle.problem.specs.Firm.{Task}
 use Rattle.problem.specs.Runs.{Goal}
-use Rattle.regression.specs.Regions.{region_goal}
 use Rattle.regression.specs.Nodes.{Pair}
 use Rattle.regression.specs.Stacks.{part_of, LiesIn, Orderly, weights}
 use Rattle.regression.specs.declared.found.Due.{Due}
 use Rattle.regression.specs.declared.node.Node.{Node}
-use Rattle.store.specs.Positions.{Target, at, goal_of, Proper}
+use Rattle.store.specs.Positions.{Target, at, goal_of, target_of}
 use Rattle.store.specs.Stores.{Meaning}
 use Rattle.outlook.specs.Outlooks.{View}
 use Rattle.claim.specs.Search.{Question}
-use Rattle.claim.specs.Turns.{NamedBelow}
 use Rattle.claim.specs.declared.outcome.Outcome.TheVariants.{Plan}
 use Rattle.planner.specs.Frames.{frame_at}
 use Rattle.planner.specs.Paths.{Held, with_work, steps_of, Begun, Sought, Offered, Gave, Done as Emptied, Ended}
@@ -30,7 +28,7 @@ may ns step need = LiesIn ns need step
 
 -- the position of a frame
 abbrev pub position : Frame → Target
-position f = at f.level (goal_of f.need f.avoid)
+position f = target_of f.position
 
 -- what a frame holds, where the work on it ends there
 abbrev pub holding : Frame → List Node → ℕ → Held (List Node)
@@ -53,14 +51,10 @@ abbrev pub lowest_of : List (Held (List Node)) → Target
 lowest_of [] = at 0 (goal_of 0 0)
 lowest_of (h ∷ hs) = h.position
 
--- a position that the task has: it is one, and it names atoms of the task
-abbrev pub Placed : Task → Target → Type 0
-Placed t q = Proper q × NamedBelow t.atoms q.goal
-
 -- one more position is due below the lowest
-abbrev pub Offers : Task → View → Question → Meaning → Meaning → ℕ → List (Held (List Node)) → ℕ → ℕ → Goal → Type 0
+abbrev pub Offers : Task → View → Question → Meaning → Meaning → ℕ → List (Held (List Node)) → ℕ → ℕ → Target → Type 0
 Offers t v a m₀ m n [] k step q = ⊥
-Offers t v a m₀ m n (h ∷ hs) k step q = Offered (waits t) may t v a m₀ m n h hs k step (at (h.position.level - 1) q)
+Offers t v a m₀ m n (h ∷ hs) k step q = Offered (waits t) may t v a m₀ m n h hs k step q
 
 -- no work is left on the lowest
 abbrev pub Idle : Task → View → List (Held (List Node)) → Type 0
@@ -70,7 +64,7 @@ Idle t v (h ∷ hs) = Emptied (waits t) may t v (h.position.level - 1) h.positio
 -- what is next, where a search is under way on this path
 abbrev pub Nexts : Task → View → Question → Meaning → Meaning → ℕ → Path → ℕ → Next → Type 0
 Nexts t v a m₀ m n p k (Found step) = Ended t v a m₀ m Plan (step ∷ steps_of (held_of p)) k (length (held_of p))
-Nexts t v a m₀ m n p k (Opens step need avoid) = Offers t v a m₀ m n (held_of p) k step (goal_of need avoid)
+Nexts t v a m₀ m n p k (Opens step q) = Offers t v a m₀ m n (held_of p) k step (target_of q)
 Nexts t v a m₀ m n p k Done = Seeks t v a m₀ m n p k × Idle t v (held_of p)
 
 -- the work on each position begins where that on the one above it ends, and has room
@@ -108,6 +102,6 @@ abbrev pub Took : Task → View → List (Held (List Node)) → Option Due → L
 Took t v [] r hs' = ⊥
 Took t v (h ∷ hs) (Some due) hs' =
     (w : List Node) × (hs' ≡ with_work h w ∷ hs)
-    × Gave (waits t) may t v (h.position.level - 1) h.position.goal h.work due.step (region_goal due.region) w
+    × Gave (waits t) may t v (h.position.level - 1) h.position.goal h.work due.step due.region w
     × (weights w < weights h.work)
 Took t v (h ∷ hs) None hs' = (hs' ≡ with_work h [] ∷ hs) × Emptied (waits t) may t v (h.position.level - 1) h.position.goal h.work

@@ -1,19 +1,19 @@
 ghost use Rattle.problem.specs.Firm.{Task};
 ghost use Rattle.problem.specs.Problems.{Fits};
-ghost use Rattle.store.specs.Positions.{at, goal_of};
+ghost use Rattle.store.specs.Positions.{at};
 ghost use Rattle.store.specs.Stores.{Blank};
 ghost use Rattle.claim.specs.Turns.{Reviews, reviews, clears};
 ghost use Rattle.claim.specs.Claim.{GoesOn};
 
-use problem::Refusal;
+use problem::{Goal, Refusal};
 use store::{Position, Store};
 
-// Whether the store covers a position; it declines where these numbers are not those of one.
-pub fn review<S: Store>(store: &S, level: u8, need: u64, avoid: u64) -> Result<bool, Refusal>
-    ensures promise { Reviews (at level (goal_of need avoid)) result (S.meaning store.now) (S.meaning store.now) }
-    ensures claim { (t : Task) → Fits t → GoesOn t (S.meaning store.now) (reviews (at level (goal_of need avoid)) result) (S.meaning store.now) }
+// Whether the store covers the goal at the level; it declines where they are no position.
+pub fn review<S: Store>(store: &S, level: u8, goal: Goal) -> Result<bool, Refusal>
+    ensures promise { Reviews (at level goal) result (S.meaning store.now) (S.meaning store.now) }
+    ensures claim { (t : Task) → Fits t → GoesOn t (S.meaning store.now) (reviews (at level goal) result) (S.meaning store.now) }
 {
-    let position = Position::new(level, need, avoid)?;
+    let position = Position::new(level, goal)?;
     Ok(store.review(&position))
 }
 

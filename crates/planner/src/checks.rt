@@ -1,10 +1,8 @@
 ghost use Rattle.std.specs.Result.{MatchResult};
 ghost use Rattle.claim.specs.Turns.{Passes, Declines, plan_checks};
-ghost use Rattle.planner.specs.Questions.{question_of};
 
-use crate::asked::Asked;
 use outlook::Outlook;
-use problem::Refusal;
+use problem::{Question, Refusal};
 use sets::{apart, within};
 use store::Store;
 
@@ -12,30 +10,31 @@ use store::Store;
 pub(crate) fn check<O: Outlook, S: Store>(
     outlook: &O,
     store: &S,
-    asked: Asked,
+    question: Question,
     room: usize,
 ) -> Result<(), Refusal>
     ensures { MatchResult result
-        (λ _. Passes (plan_checks (O.task outlook.now) (S.meaning store.now) (question_of asked) room))
-        (λ e. Declines (plan_checks (O.task outlook.now) (S.meaning store.now) (question_of asked) room) e) }
+        (λ _. Passes (plan_checks (O.task outlook.now) (S.meaning store.now) question room))
+        (λ e. Declines (plan_checks (O.task outlook.now) (S.meaning store.now) question room) e) }
 {
-    let atoms = outlook.problem().atoms as usize;
-    if !within(asked.need, atoms) || !within(asked.avoid, atoms) {
+    let goal = question.goal;
+    let atoms = usize::from(outlook.problem().atoms);
+    if !within(goal.need, atoms) || !within(goal.avoid, atoms) {
         return Err(Refusal::UnknownAtom);
     }
-    if !apart(asked.need, asked.avoid) {
+    if !apart(goal.need, goal.avoid) {
         return Err(Refusal::SharedAtom);
     }
-    if asked.limit > 32 {
+    if question.limit > 32 {
         return Err(Refusal::BadLevel);
     }
-    if asked.budget > 1_000_000 {
+    if question.budget > 1_000_000 {
         return Err(Refusal::BadBudget);
     }
-    if room < asked.limit as usize {
+    if room < usize::from(question.limit) {
         return Err(Refusal::TooShort);
     }
-    if store.kept() + store.passed() + asked.budget > 16_000_000 {
+    if store.kept() + store.passed() + question.budget > 16_000_000 {
         return Err(Refusal::StoreCounts);
     }
     Ok(())

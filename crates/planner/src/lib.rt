@@ -1,6 +1,5 @@
 #![tactic(auto)]
 // The planner: plan, review and clear, the calls on one store of which the claim holds.
-mod asked;
 mod asking;
 mod checks;
 mod dropping;
@@ -10,11 +9,9 @@ mod looking;
 mod next;
 mod path;
 mod planning;
-mod progress;
 mod pruning;
 mod search;
 mod teller;
-mod telling;
 mod working;
 mod writing;
 

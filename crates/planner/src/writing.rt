@@ -4,14 +4,14 @@ ghost use Rattle.planner.specs.Frames.{way};
 use crate::frame::Frame;
 
 // Writes a plan: the step, and then the steps of the frames, from the lowest up to the goal.
-pub(crate) fn write_plan(frames: &[Frame], depth: usize, step: u64, list: &mut [u64])
-    requires some { 0 < depth }
-    requires held { depth ≤ length frames.now }
-    requires room { depth ≤ length list.old }
-    ensures { list.new ≡ (step ∷ way depth frames.now) ++ drop depth list.old }
+pub(crate) fn write_plan(frames: &[Frame], step: u64, list: &mut [u64])
+    requires some { 0 < length frames.now }
+    requires room { length frames.now ≤ length list.old }
+    ensures { list.new ≡ (step ∷ way (length frames.now) frames.now) ++ drop (length frames.now) list.old }
 {
     list[0] = step;
-    for i in 1..depth {
-        list[i] = frames[depth - i].step;
+    // `iter_mut` was tried: once its borrow is over, a proof knows the length of the list and none of its entries
+    for (i, frame) in frames[1..].iter().rev().enumerate() {
+        list[i + 1] = frame.step;
     }
 }

@@ -1,12 +1,15 @@
 -- An order of a step by its members, and by its first member, are the same.
-use Rattle.std.proofs.Common.{◌≡◌, ℕ, zero, suc, ◌^◌, ◌<◌, ◌≢◌, ◌⊎◌, List, [], ◌∷◌, sym, refl, ap, subst, inl, inr, eq-zero-or-pos, arith}
+use Rattle.std.proofs.Common.{◌≡◌, ℕ, Bool, true, false, Option, Decides, zero, suc, ◌^◌, ◌<◌, ◌≢◌, ◌⊎◌, List, [], ◌∷◌, sym, refl, ap, subst, inl, inr, eq-zero-or-pos, arith}
 use native.Mathlib.Decide.{ℕ_discrete}
 use lib.Count.{ones, count_trailing_zeros}
 use Rattle.sets.proofs.Bits.{bit_digit, bit_none, same_members, bit_minus}
 use Rattle.sets.proofs.Members.{bit_one, bit_other, ones_minus, low_has, minus_lt, none_zero}
 use Rattle.sets.specs.Sets.{bit, Has, minus}
 use Rattle.problem.specs.Actions.{Action}
-use Rattle.problem.specs.Firm.{In, OrderOf, Firm}
+use Rattle.std.specs.Bool.{then_some}
+use Rattle.std.proofs.lemmas.Bool.{false≢true}
+use Rattle.problem.specs.Firm.{In, OrderOf, Firm, Task, Step}
+use Rattle.problem.specs.Declines.{Tries}
 use Rattle.problem.specs.Orders.{Order, EveryOrder}
 
 -- what is left of a set without one number
@@ -72,3 +75,13 @@ some_order (suc n) step lt e = go (eq-zero-or-pos step) (λ k h l. some_order n 
         let h = low_has step p lt in
         let r = ih k h (omega (arith, ones_minus step k h)) in
         (k ∷ r.0, (h, r.1))
+
+-- what a try answers, where the walk through all orders says whether each ends in `end`
+pub tries_by :
+    (t : Task) (s step end : ℕ) (b : Bool) → Step t step
+    → Decides b (EveryOrder t.at s s step end) → ((e : ℕ) → EveryOrder t.at s s step e → end ≡ e)
+    → (r : Option ℕ) → r ≡ then_some b end → Tries t s step r
+tries_by t s step end true allowed d one r e = rw e (record { allowed = allowed; firm = every_firm t.at s step end (d.0 refl) })
+tries_by t s step end false allowed d one r e = rw e (λ x f.
+    let every : EveryOrder t.at s s step x = firm_every t.at s step x f.firm in
+    false≢true (d.1 (subst (EveryOrder t.at s s step) (sym (one x every)) every)))

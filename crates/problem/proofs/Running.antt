@@ -96,7 +96,7 @@ runs_within t fits _ _ start = fits.first
 runs_within t fits _ _ (more {before = b} step end r f) = step_within t fits b step end (runs_within t fits _ b r) f
 
 -- one step more at the end of a list
-leads_push : (t : Task) (steps : List ℕ) (s mid step end : ℕ) → Leads t s steps mid → FirmStep t mid step end → Leads t s (steps ++ step ∷ []) end
+pub leads_push : (t : Task) (steps : List ℕ) (s mid step end : ℕ) → Leads t s steps mid → FirmStep t mid step end → Leads t s (steps ++ step ∷ []) end
 leads_push t [] s mid step end l f = (end, subst (λ (x : ℕ). FirmStep t x step end) (sym l) f, refl)
 leads_push t (x ∷ xs) s mid step end l f = (l.0, l.1, leads_push t xs l.0 mid step end l.2 f)
 

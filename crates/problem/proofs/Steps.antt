@@ -1,13 +1,15 @@
 -- One turn of the loops over an action's effects.
-use Rattle.std.proofs.Common.{◌≡◌, ℕ, zero, suc, ◌+◌, ◌-◌, ◌<◌, ◌≤◌, Bool, true, false, cond, not, List, length, drop, Some, None, Decides, sym, refl, ap, ◌∙◌, subst, arith}
+use Rattle.std.proofs.Common.{MatchBool, ◌≡◌, ℕ, zero, suc, ◌+◌, ◌-◌, ◌<◌, ◌≤◌, Bool, true, false, cond, List, [], ◌∷◌, length, drop, Some, None, Decides, sym, refl, ap, ◌∙◌, subst, arith}
 use mathlib.Core.Bool.{beq}
+use Rattle.std.specs.List.{AllWithin, HoldsAt}
+use Rattle.std.specs.Borrow.{Bor}
 use native.Mathlib.Decide.{dec_le}
 use lib.Bits.{bit_or, or_zero_r}
-use Rattle.std.proofs.lemmas.List.{at_drop_more, at_drop_all, drop_more, get_or_default}
-use Rattle.std.proofs.lemmas.Bool.{eqb-true, eq-eqb, ne_eqb, both_ways}
+use Rattle.std.proofs.lemmas.List.{at_drop_more, at_drop_all, get_or_default}
+use Rattle.std.proofs.lemmas.Bool.{false≢true, eqb-true, eq-eqb, ne_eqb}
 use Rattle.std.proofs.lemmas.Bool.Decides.{same_from_decides}
 use Rattle.sets.specs.Sets.{Inside}
-use Rattle.sets.specs.Search.{Holds, First}
+use Rattle.sets.specs.Search.{Holds, First, NextFitting}
 use Rattle.sets.proofs.Bits.{bit_of_or, same_bits, and_inside, inside_and}
 use Rattle.problem.specs.Rows.{effect_at}
 use Rattle.problem.specs.Actions.{gather, fires, FireAlike}
@@ -75,22 +77,23 @@ module _ (part : EffectRow → ℕ) (s : ℕ) (es : List EffectRow) where
         ] in
         sym (or_zero_r acc) ∙ ap (bit_or acc) (sym none) ∙ inv
 
-pub beq_apart : (x y : Bool) → not (beq x y) ≡ true → x ≡ y → ⊥
-beq_apart true true e = λ _. both_ways false refl e
-beq_apart true false e = λ p. both_ways true (p) refl
-beq_apart false true e = λ p. both_ways true (sym p) refl
-beq_apart false false e = λ _. both_ways false refl e
+-- the same, in a walk along those that fire
+module _ (part : EffectRow → ℕ) (s a from acc to : ℕ) (es rows : List EffectRow) (r : rows ≡ es) (p : a ≡ s) (inv : bit_or acc (gather part s (drop from es)) ≡ gather part s es) where
+  pub gather_fitting : (e : Bor EffectRow) → NextFitting (λ x. Inside x.condition a) rows from (Some e) to → bit_or (bit_or acc (part e.now)) (gather part s (drop to es)) ≡ gather part s es
+  gather_fitting e h = rw (h.2 (effect_at [] 0), h.3, r) (gather_more part s es acc from inv h.0 (rw (← p, ← r) h.1))
 
-pub beq_same : (x y : Bool) → not (beq x y) ≡ false → x ≡ y
-beq_same true true e = refl
-beq_same true false e = e
-beq_same false true e = sym e
-beq_same false false e = refl
+  pub gather_no_more : NextFitting (λ x. Inside x.condition a) rows from None to → acc ≡ gather part s es
+  gather_no_more h = gather_all part s es acc from inv (rw (← p, ← r) h)
 
--- what is left of the effects fires alike where its first does and the others do
-pub alike_more : (s t : ℕ) (es : List EffectRow) (i : ℕ) → i < length es
-    → FireAlike (drop i es) s t ≡ ((fires s (effect_at es i) ≡ fires t (effect_at es i)) × FireAlike (drop (i + 1) es) s t)
-alike_more s t es i h = ap (λ l. FireAlike l s t) (drop_more es i _ h)
+pub eqb_same : (x y : Bool) → beq x y ≡ true → x ≡ y
+eqb_same true true e = refl
+eqb_same true false e = sym e
+eqb_same false true e = e
+eqb_same false false e = refl
+
+pub same_eqb : (x y : Bool) → x ≡ y → beq x y ≡ true
+same_eqb true y e = rw (← e) refl
+same_eqb false y e = rw (← e) refl
 
 -- what the two tests of an effect say of its firing
 module _ (s t : ℕ) (e : EffectRow) (x y : Bool) (p : Decides x (Fits s e)) (q : Decides y (Fits t e)) where
@@ -99,3 +102,21 @@ module _ (s t : ℕ) (e : EffectRow) (x y : Bool) (p : Decides x (Fits s e)) (q 
 
   pub alike_tests : fires s e ≡ fires t e → x ≡ y
   alike_tests z = same_from_decides x (fires s e) p (fires_decides s e) ∙ z ∙ same_from_decides (fires t e) y (fires_decides t e) q
+
+-- effects fire alike where each of them does
+pub all_alike : (es : List EffectRow) (s t : ℕ) → ((k : ℕ) → k < length es → fires s (effect_at es k) ≡ fires t (effect_at es k)) → FireAlike es s t
+all_alike [] s t f = tt
+all_alike (e ∷ es) s t f = (f 0 (omega arith), all_alike es s t (λ k lt. f (suc k) (omega arith)))
+
+pub alike_at : (es : List EffectRow) (s t : ℕ) → FireAlike es s t → (k : ℕ) → k < length es → fires s (effect_at es k) ≡ fires t (effect_at es k)
+alike_at [] s t f k lt = absurd (omega arith)
+alike_at (e ∷ es) s t f zero lt = f.0
+alike_at (e ∷ es) s t f (suc k) lt = alike_at es s t f.1 k (omega arith)
+
+-- what a walk along the effects says of their firing
+pub each_alike :
+    (es : List EffectRow) (s t : ℕ) (r : Bool)
+    → MatchBool r (AllWithin (λ e. fires s e ≡ fires t e) es 0 (length es)) ((k : ℕ) × (k < length es) × HoldsAt (λ e. fires s e ≡ fires t e → ⊥) es k)
+    → Decides r (FireAlike es s t)
+each_alike es s t true h = ((λ _. all_alike es s t (λ k lt. h k (effect_at [] 0) (omega arith) lt)), λ _. refl)
+each_alike es s t false h = ((λ e. absurd (false≢true e)), λ all. absurd (h.2 (effect_at [] 0) (alike_at es s t all h.0 h.1)))

@@ -1,6 +1,7 @@
 -- What an action does.
-use Rattle.std.specs.Prelude.{◌≡◌, ℕ, Bool, cond, ◌⊎◌, List, [], ◌∷◌, ◌==◌, bit_and, bit_or}
+use Rattle.std.specs.Prelude.{◌≡◌, ℕ, Bool, cond, List, [], ◌∷◌, ◌==◌, bit_and, bit_or}
 use Rattle.sets.specs.Sets.{Inside, minus}
+use Rattle.sets.specs.Listed.{Among as Stands}
 use Rattle.problem.specs.declared.rows.EffectRow.{EffectRow}
 
 -- an action: its precondition, and its effects in order
@@ -10,8 +11,7 @@ pub record Action : Type 0 where
 
 -- e is one of the effects
 abbrev pub Among : EffectRow → List EffectRow → Type 0
-Among e [] = ⊥
-Among e (x ∷ xs) = (e ≡ x) ⊎ Among e xs
+Among e es = Stands e es
 
 -- an effect fires in a state that holds its whole condition
 abbrev pub fires : ℕ → EffectRow → Bool

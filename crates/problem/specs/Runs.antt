@@ -2,6 +2,7 @@
 use Rattle.std.specs.Prelude.{◌≡◌, ℕ, suc, ◌≤◌, List, [], ◌∷◌}
 use Rattle.sets.specs.Sets.{Inside, Apart}
 use Rattle.problem.specs.Firm.{Task, FirmStep}
+use Rattle.problem.specs.declared.goal.Goal.{Goal as Sought}
 
 -- a firm run of n steps from the first state ends in s
 pub data Run (t : Task) : ℕ → ℕ → Type 0 where
@@ -13,9 +14,9 @@ abbrev pub Leads : Task → ℕ → List ℕ → ℕ → Type 0
 Leads t s [] end = s ≡ end
 Leads t s (step ∷ steps) end = (mid : ℕ) × FirmStep t s step mid × Leads t mid steps end
 
-pub record Goal : Type 0 where
-  pub need : ℕ
-  pub avoid : ℕ
+-- a goal: two sets of atoms
+abbrev pub Goal : Type 0
+Goal = Sought
 
 -- the state holds all of need and nothing of avoid
 pub record Meets (g : Goal) (s : ℕ) : Type 0 where

@@ -1,12 +1,12 @@
 ghost use Rattle.std.specs.Prelude.{◌≡◌, ℕ, ◌+◌, ◌-◌, ◌<◌, ◌≤◌, length, Decides, bit_or};
 ghost use Rattle.sets.specs.Sets.{minus};
-ghost use Rattle.problem.specs.Actions.{adds, deletes, FireAlike};
+ghost use Rattle.problem.specs.Actions.{adds, deletes, fires, FireAlike};
 ghost use Rattle.problem.specs.Problems.{task_of};
 
 use crate::making::begin;
 use crate::problem::Problem;
 use crate::rows::EffectRow;
-use sets::{Entry, next_fit, without};
+use sets::{Entry, fitting_of, without};
 
 impl<'a> Problem<'a> {
     // The effects of action `k`; none past the last action.
@@ -26,11 +26,7 @@ impl<'a> Problem<'a> {
     pub fn precondition_of(&self, k: usize) -> u64
         ensures { result ≡ ((task_of self.now).at k).precondition }
     {
-        if k < self.actions.len() {
-            self.actions[k].precondition
-        } else {
-            0
-        }
+        self.actions.get(k).map_or(0, |row| row.precondition)
     }
 }
 
@@ -48,11 +44,9 @@ pub fn change_in(effects: &[EffectRow], state: u64) -> Change
 {
     let mut add = 0;
     let mut delete = 0;
-    let mut from = 0;
-    while let Some(i) = next_fit(effects, from, &state) {
-        add |= effects[i].add;
-        delete |= effects[i].delete;
-        from = i + 1;
+    for e in fitting_of(effects, &state) {
+        add |= e.add;
+        delete |= e.delete;
     }
     Change { add, delete }
 }
@@ -65,14 +59,16 @@ pub fn state_after(effects: &[EffectRow], state: u64) -> u64
     without(state | change.add, change.delete)
 }
 
+// Whether an effect fires in both states or in neither.
+fn fires_alike(e: &EffectRow, s: u64, t: u64) -> bool
+    ensures { Decides result (fires s e.now ≡ fires t e.now) }
+{
+    e.fits(&s) == e.fits(&t)
+}
+
 // Whether each effect fires in both states or in neither.
 pub fn fire_alike(effects: &[EffectRow], s: u64, t: u64) -> bool
     ensures { Decides result (FireAlike effects.now s t) }
 {
-    for e in effects {
-        if e.fits(&s) != e.fits(&t) {
-            return false;
-        }
-    }
-    true
+    effects.iter().all(|e| fires_alike(e, s, t))
 }

@@ -12,48 +12,31 @@ use sets::within;
 pub(crate) fn begin(actions: &[ActionRow], n: usize, k: usize) -> usize
     ensures { result ≡ begins actions.now n k }
 {
-    if k < actions.len() {
-        actions[k].first_effect
-    } else {
-        n
-    }
+    actions.get(k).map_or(n, |row| row.first_effect)
 }
 
+// By place, here and below: the effects of an action end where those of the next begin.
 // Whether the effects of the actions stand one action after the other, from the first effect to the last.
 fn placed(actions: &[ActionRow], n: usize) -> bool
     ensures { Decides result (Placed actions.now n) }
 {
-    if begin(actions, n, 0) != 0 {
-        return false;
-    }
-    for k in 0..actions.len() {
-        if begin(actions, n, k) > begin(actions, n, k + 1) {
-            return false;
-        }
-    }
-    true
+    begin(actions, n, 0) == 0
+        && (0..actions.len()).all(|k| begin(actions, n, k) <= begin(actions, n, k + 1))
 }
 
 // Whether no action has more than eight effects.
 fn few_effects(actions: &[ActionRow], n: usize) -> bool
     ensures { Decides result ((k : ℕ) → k < length actions.now → begins actions.now n (k + 1) ≤ begins actions.now n k + 8) }
 {
-    for k in 0..actions.len() {
-        if begin(actions, n, k + 1).saturating_sub(begin(actions, n, k)) > 8 {
-            return false;
-        }
-    }
-    true
+    (0..actions.len()).all(|k| begin(actions, n, k + 1).saturating_sub(begin(actions, n, k)) <= 8)
 }
 
 // Whether atoms, hands, actions and effects are as many as they may be.
 fn sized(atoms: u8, hands: u8, actions: &[ActionRow], n: usize) -> bool
     ensures { Decides result (Sized atoms hands actions.now n) }
 {
-    atoms >= 1
-        && atoms <= 64
-        && hands >= 1
-        && hands <= 4
+    matches!(atoms, 1..=64)
+        && matches!(hands, 1..=4)
         && actions.len() <= 64
         && few_effects(actions, n)
 }
@@ -62,24 +45,18 @@ fn sized(atoms: u8, hands: u8, actions: &[ActionRow], n: usize) -> bool
 fn preconditions_named(actions: &[ActionRow], m: u8) -> bool
     ensures { Decides result (PreconditionsNamed m actions.now) }
 {
-    for row in actions {
-        if !within(row.precondition, usize::from(m)) {
-            return false;
-        }
-    }
-    true
+    actions
+        .iter()
+        .all(|row| within(row.precondition, usize::from(m)))
 }
 
 // Whether the effects name only atoms below `m`.
 fn effects_named(effects: &[EffectRow], m: u8) -> bool
     ensures { Decides result (EffectsNamed m effects.now) }
 {
-    for e in effects {
-        if !within(e.condition | e.add | e.delete, usize::from(m)) {
-            return false;
-        }
-    }
-    true
+    effects
+        .iter()
+        .all(|e| within(e.condition | e.add | e.delete, usize::from(m)))
 }
 
 // Whether the sets of a problem name only atoms below `m`.
@@ -89,7 +66,8 @@ fn named(first: u64, actions: &[ActionRow], effects: &[EffectRow], m: u8) -> boo
     within(first, usize::from(m)) && preconditions_named(actions, m) && effects_named(effects, m)
 }
 
-// Whether numbers and rows are those of a problem, or the first reason why not.
+// Whether numbers and rows are those of a problem, or the first reason why not. The five are the fields of a problem, which is not
+// there before they are looked at.
 fn check_rows(
     atoms: u8,
     hands: u8,
@@ -127,6 +105,29 @@ impl<'a> Problem<'a> {
         }
     }
 
+    // The problem of these numbers and rows, or why they are not those of one: places first, then sizes, then atoms.
+    pub fn new(
+        atoms: u8,
+        hands: u8,
+        first: u64,
+        actions: &'a [ActionRow],
+        effects: &'a [EffectRow],
+    ) -> Result<Problem<'a>, Refusal>
+        ensures { MatchResult result
+            (λ p. Loads atoms hands first actions.now effects.now
+            × Consists p atoms hands first actions.now effects.now)
+            (λ e. LoadDeclines atoms hands first actions.now effects.now e) }
+    {
+        check_rows(atoms, hands, first, actions, effects)?;
+        Ok(Problem {
+            atoms,
+            hands,
+            first,
+            actions,
+            effects,
+        })
+    }
+
     // Becomes the problem of these numbers and rows; what they are not allowed to be is refused, and changes nothing.
     pub fn load(
         &mut self,
@@ -141,14 +142,7 @@ impl<'a> Problem<'a> {
             × Consists self.new atoms hands first actions.now effects.now)
             (λ e. LoadDeclines atoms hands first actions.now effects.now e × (self.new ≡ self.old)) }
     {
-        check_rows(atoms, hands, first, actions, effects)?;
-        *self = Problem {
-            atoms,
-            hands,
-            first,
-            actions,
-            effects,
-        };
+        *self = Problem::new(atoms, hands, first, actions, effects)?;
         Ok(())
     }
 }

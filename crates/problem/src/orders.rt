@@ -9,8 +9,7 @@ ghost use Rattle.problem.specs.Declines.{Tries, TryDeclines};
 use crate::actions::{fire_alike, state_after};
 use crate::problem::Problem;
 use crate::refusal::Refusal;
-use crate::tried::Tried;
-use sets::{inside, within, without_one};
+use sets::{inside, members_of, within, without_one};
 
 // The state after an action's turn, if the action may run in `state` and fires what it fires in `start`.
 fn turn(problem: &Problem, start: u64, state: u64, action: usize) -> Option<u64>
@@ -20,11 +19,8 @@ fn turn(problem: &Problem, start: u64, state: u64, action: usize) -> Option<u64>
         × next ≡ result_of ((task_of problem.now).at action) state) }
 {
     let effects = problem.effects_of(action);
-    if inside(problem.precondition_of(action), state) && fire_alike(effects, start, state) {
-        Some(state_after(effects, state))
-    } else {
-        None
-    }
+    let runs = inside(problem.precondition_of(action), state) && fire_alike(effects, start, state);
+    runs.then(|| state_after(effects, state))
 }
 
 // Whether from `state` every order of the actions of `remaining` takes its turns and ends in `end`.
@@ -34,9 +30,8 @@ fn every_order(problem: &Problem, start: u64, state: u64, remaining: u64, end: u
     if remaining == 0 {
         return state == end;
     }
-    let mut left = remaining;
-    while left != 0 {
-        let action = left.trailing_zeros();
+    // a loop and no `all`: the recursion is a plain one, and in a closure it would need clauses of its own
+    for action in members_of(remaining) {
         let Some(next) = turn(problem, start, state, action as usize) else {
             return false;
         };
@@ -44,7 +39,6 @@ fn every_order(problem: &Problem, start: u64, state: u64, remaining: u64, end: u
         if !every_order(problem, start, next, rest, end) {
             return false;
         }
-        left &= left - 1;
     }
     true
 }
@@ -54,11 +48,8 @@ fn lowest_first(problem: &Problem, start: u64, step: u64) -> u64
     ensures { (end : ℕ) → EveryOrder (task_of problem.now).at start start step end → result ≡ end }
 {
     let mut state = start;
-    let mut left = step;
-    while left != 0 {
-        let action = left.trailing_zeros();
+    for action in members_of(step) {
         state = state_after(problem.effects_of(action as usize), state);
-        left &= left - 1;
     }
     state
 }
@@ -71,8 +62,8 @@ impl<'a> Problem<'a> {
         within(step, self.actions.len()) && step.count_ones() <= u32::from(self.hands)
     }
 
-    // The state in which a step ends, if the step is firm in `state`.
-    pub fn try_step(&self, state: u64, step: u64) -> Result<Tried, Refusal>
+    // The state in which a step ends; none if the step is not firm in `state`.
+    pub fn try_step(&self, state: u64, step: u64) -> Result<Option<u64>, Refusal>
         ensures { MatchResult result
             (λ t. Within self.now.atoms state × Step (task_of self.now) step × Tries (task_of self.now) state step t)
             (λ e. TryDeclines (task_of self.now) state step e) }
@@ -84,10 +75,7 @@ impl<'a> Problem<'a> {
             return Err(Refusal::BadStep);
         }
         let end = lowest_first(self, state, step);
-        if every_order(self, state, state, step, end) {
-            Ok(Tried::Ends(end))
-        } else {
-            Ok(Tried::NotFirm)
-        }
+        let firm = every_order(self, state, state, step, end);
+        Ok(firm.then_some(end))
     }
 }

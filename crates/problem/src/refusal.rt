@@ -2,7 +2,7 @@ ghost use Rattle.std.specs.Prelude.{◌≡◌};
 ghost use Rattle.problem.specs.Refusals.{number_of};
 
 // Why a call declines. Each case has its number, which users read.
-#[derive(Clone, Copy)]
+#[derive(Clone, Copy, PartialEq, Eq)]
 pub enum Refusal {
     // the text ends inside a record or before its end record
     CutText = 1,
@@ -29,6 +29,7 @@ pub enum Refusal {
 }
 
 impl Refusal {
+    // The number that users read; a conversion to `u8` would not say which number that is.
     pub fn number(self) -> u8
         ensures { result ≡ number_of self }
     {

@@ -1,27 +1,18 @@
-ghost use Rattle.std.specs.Prelude.{Decides};
-ghost use Rattle.problem.specs.Runs.{Meets};
-ghost use Rattle.regression.specs.Regions.{region_goal};
 ghost use Rattle.regresscheck.specs.Asking.{Outside};
 
 use crate::asked::Asked;
-use regression::{Dismissal, Region};
-use sets::{apart, inside};
-
-// Whether a state holds all of `need` and nothing of `avoid`.
-pub fn meets(region: Region, state: u64) -> bool
-    ensures { Decides result (Meets (region_goal region) state) }
-{
-    inside(region.need, state) && apart(region.avoid, state)
-}
+use problem::Goal;
+use regression::Dismissal;
+use sets::inside;
 
 impl Dismissal for Asked {
     ghost dismissed = { Outside };
 
-    fn dismisses(&self, region: Region) -> bool {
+    fn dismisses(&self, region: Goal) -> bool {
         match self {
             Asked::All => false,
             Asked::Without(pair) => inside(*pair, region.need),
-            Asked::Only(state) => !meets(region, *state),
+            Asked::Only(state) => !region.met_by(*state),
         }
     }
 }

@@ -3,111 +3,77 @@
 mod asked;
 mod asking;
 mod checking;
-mod drawing;
+mod tally;
 
-use asked::Asked;
-use checking::{all_due, all_sound, complete, none_outside, once};
-use drawing::{Chance, draw_region, draw_rows};
-use problem::Problem;
-use regression::Region;
+use asked::{Asked, Query};
+use chance::{Chance, Sizes, count, draw_problem};
+use sets::{inside, size};
 use std::alloc::{AllocError, Global};
 use std::io;
+use tally::Tally;
 
-// What was checked, and what of it was wrong.
-#[derive(Clone, Copy)]
-struct Tally {
-    problems: u64,
-    goals: u64,
-    due: u64,
-    // of these, with more than one action, and with an atom to avoid that the goal does not avoid
-    joint: u64,
-    wary: u64,
-    unsound: u64,
-    incomplete: u64,
-    twice: u64,
-    outside: u64,
-    unfinished: u64,
+// The sizes of the problems that are drawn.
+fn drawn_sizes() -> Sizes {
+    Sizes {
+        atoms: 3..=5,
+        hands: 1..=3,
+        actions: 3..=4,
+    }
 }
 
-fn count(n: u64, right: bool) -> u64 {
-    if right { n } else { n.saturating_add(1) }
-}
+// The steps of four actions.
+const STEPS: u64 = 16;
 
-// Checks what is made due below `aim`.
-fn check_goal(
-    heap: Global,
-    problem: &Problem,
-    states: u64,
-    steps: u64,
-    aim: Region,
-    asked: Asked,
-    tally: Tally,
-) -> Result<Tally, AllocError> {
-    let mut tally = tally;
-    tally.goals = tally.goals.saturating_add(1);
-    let Some(dues) = all_due(heap, problem, aim, asked)? else {
-        tally.unfinished = tally.unfinished.saturating_add(1);
-        return Ok(tally);
+// Checks what is made due by a query.
+fn check_goal(heap: Global, query: Query, tally: &mut Tally) -> Result<(), AllocError> {
+    count(&mut tally.goals, true);
+    let Some(dues) = query.all_due(heap)? else {
+        count(&mut tally.unfinished, true);
+        return Ok(());
     };
     tally.due = tally.due.saturating_add(dues.len() as u64);
     for due in &dues {
-        tally.joint = count(tally.joint, due.step.count_ones() < 2);
-        tally.wary = count(tally.wary, due.region.avoid & !aim.avoid == 0);
+        count(&mut tally.joint, size(due.step) >= 2);
+        count(&mut tally.wary, !inside(due.region.avoid, query.aim.avoid));
     }
-    tally.unsound = count(tally.unsound, all_sound(problem, states, &dues, aim));
-    tally.incomplete = count(
-        tally.incomplete,
-        complete(problem, states, steps, &dues, aim, asked),
-    );
-    tally.twice = count(tally.twice, once(&dues, aim));
-    tally.outside = count(tally.outside, none_outside(&dues, asked));
-    Ok(tally)
+    count(&mut tally.unsound, !query.all_sound(&dues));
+    count(&mut tally.incomplete, !query.complete(STEPS, &dues));
+    count(&mut tally.twice, !query.once(&dues));
+    count(&mut tally.outside, !query.none_outside(&dues));
+    Ok(())
 }
 
 // Draws a problem and goals for it, and checks each of them.
-fn check_problem(heap: Global, chance: &mut Chance, tally: Tally) -> Result<Tally, AllocError> {
-    let mut tally = tally;
-    let m = 3 + chance.below(3);
-    let states = 1u64 << m;
-    let atoms = states - 1;
-    let hands = 1 + chance.below(3);
-    let first = chance.half(atoms);
-    let drawn = draw_rows(heap, chance, atoms)?;
-    let mut problem = Problem::blank();
-    if problem
-        .load(m as u8, hands as u8, first, &drawn.actions, &drawn.effects)
-        .is_err()
-    {
-        tally.unfinished = tally.unfinished.saturating_add(1);
-        return Ok(tally);
-    }
-    tally.problems = tally.problems.saturating_add(1);
+fn check_problem(heap: Global, chance: &mut Chance, tally: &mut Tally) -> Result<(), AllocError> {
+    let source = draw_problem(heap, chance, drawn_sizes())?;
+    let Ok(problem) = source.problem() else {
+        count(&mut tally.unfinished, true);
+        return Ok(());
+    };
+    count(&mut tally.problems, true);
+    let atoms = source.all_atoms();
+    let states = atoms.saturating_add(1);
     for _ in 0..4u32 {
-        let aim = draw_region(chance, atoms);
+        let aim = chance.goal(atoms);
         let pair = chance.half(atoms);
-        tally = check_goal(heap, &problem, states, 16, aim, Asked::All, tally)?;
-        tally = check_goal(heap, &problem, states, 16, aim, Asked::Without(pair), tally)?;
-        tally = check_goal(heap, &problem, states, 16, aim, Asked::Only(first), tally)?;
+        for asked in [Asked::All, Asked::Without(pair), Asked::Only(source.first)] {
+            let query = Query {
+                problem,
+                states,
+                aim,
+                asked,
+            };
+            check_goal(heap, query, tally)?;
+        }
     }
-    Ok(tally)
+    Ok(())
 }
 
 fn main(rt: HostRuntime) -> io::Result<()> {
     let mut chance = Chance::new(2024);
-    let mut tally = Tally {
-        problems: 0,
-        goals: 0,
-        due: 0,
-        joint: 0,
-        wary: 0,
-        unsound: 0,
-        incomplete: 0,
-        twice: 0,
-        outside: 0,
-        unfinished: 0,
-    };
+    let mut tally = Tally::default();
     for _ in 0..600u32 {
-        tally = check_problem(rt.alloc(), &mut chance, tally)?;
+        check_problem(rt.alloc(), &mut chance, &mut tally)?;
     }
     let Tally {
         problems,

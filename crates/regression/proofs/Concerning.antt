@@ -1,19 +1,14 @@
--- What is asked about one action concerns the step; and verdicts along the actions of a step.
-use Rattle.std.proofs.Common.{◌≡◌, ℕ, ◌-◌, ◌^◌, ◌<◌, ◌≢◌, ◌⊎◌, List, sym, ap, ◌∙◌, subst, subst₂, inl, inr}
-use lib.Bits.{bit_and}
-use lib.Count.{count_trailing_zeros}
+-- What is asked about one action concerns the step.
+use Rattle.std.proofs.Common.{◌≡◌, ℕ, ◌^◌, ◌≢◌, ◌⊎◌, sym, ap, ◌∙◌, subst, inl, inr}
 use Rattle.sets.specs.Sets.{Has, Inside, minus}
 use Rattle.problem.specs.Actions.{Action}
-use Rattle.problem.specs.declared.rows.EffectRow.{EffectRow}
 use Rattle.problem.proofs.Listed.{left_in, left_other}
-use Rattle.problem.proofs.Every.{pick_in}
 use Rattle.regression.specs.Spans.{Unhurt, UnhurtBy, RestAll, Fine}
 use Rattle.regression.specs.Matters.{Rubs, Stirred, Rubbed, Concerns}
-use Rattle.regression.specs.Verdicts.{Judged, both_of}
+use Rattle.regression.specs.Verdicts.{Judged, both_of, OfAll}
 use Rattle.regression.specs.declared.verdict.Verdict.{Verdict}
-use Rattle.regression.specs.declared.verdict.Verdict.TheVariants.{Yes, No}
-use Rattle.regression.proofs.Judging.{judged_both, judged_named, judged_is}
-use Rattle.regression.proofs.Along.{Walk, walk_start, walk_more, walk_no, walk_end}
+use Rattle.regression.proofs.Masks.{so}
+use Rattle.regression.proofs.Judging.{judged_both, judged_named, judged_is, all_judged}
 
 module _ (at : ℕ → Action) (step i : ℕ) (hi-in : Has step i) where
   abbrev Others : ℕ
@@ -53,66 +48,27 @@ module _ (at : ℕ → Action) (step i : ℕ) (hi-in : Has step i) where
     )
   ]
 
-  module _ (lo hi others : ℕ) (eo : others ≡ Others) where
-    -- what the others do, named by the step
-    pub unhurt_concerns : (k : ℕ) → k ≡ i → (v : Verdict) → Judged lo hi (UnhurtBy at k others) (Rubbed at k others) v
+  module _ (lo hi : ℕ) where
+    -- the verdicts on what each of the others does are one on what they do
+    pub unhurt_judged : (others : ℕ) → others ≡ Others → {P : ℕ → Verdict → Type 0} {v : Verdict} → OfAll (Has others) P v
+        → ((j : ℕ) (w : Verdict) → Has others j → P j w → Judged lo hi (Unhurt at i j) (λ x. Rubs at i (at j) x ⊎ Rubs at j (at i) x) w)
         → Judged lo hi (UnhurtBy at i Others) (Concerns at step) v
-    unhurt_concerns k ek v j =
-        judged_named lo hi (UnhurtBy at i Others) (Rubbed at i Others) (Concerns at step) rubbed_concerns v
-        (subst₂ (λ (x y : ℕ). Judged lo hi (UnhurtBy at x y) (Rubbed at x y) v) ek eo j)
+    unhurt_judged others eo {P} {v} a f =
+        subst (λ (y : ℕ). Judged lo hi (UnhurtBy at i y) (Concerns at step) v) eo
+        (all_judged lo hi (λ j. Unhurt at i j) (Concerns at step) a
+        (λ j w m p. judged_named lo hi (Unhurt at i j) _ (Concerns at step) (λ x n. rubbed_concerns x (j, so _ _ j eo m, n)) w (f j w m p)))
 
-    rest_concerns : (es : List EffectRow) → es ≡ (at i).effects → (v : Verdict) → Judged lo hi (RestAll at es others) (Stirred at es others) v
-        → Judged lo hi (RestAll at (at i).effects Others) (Concerns at step) v
-    rest_concerns es ee v j =
-        judged_named lo hi (RestAll at (at i).effects Others) (Stirred at (at i).effects Others) (Concerns at step) stirred_concerns v
-        (subst (λ (y : ℕ). Judged lo hi (RestAll at (at i).effects y) (Stirred at (at i).effects y) v) eo
-        (subst (λ (y : List EffectRow). Judged lo hi (RestAll at y others) (Stirred at y others) v) ee j))
-
-    pub fine_judged : (k pre : ℕ) (es : List EffectRow) → k ≡ i → pre ≡ (at i).precondition → es ≡ (at i).effects
-        → (own near far calm v : Verdict) → calm ≡ both_of near far → v ≡ both_of own calm
-        → Judged lo hi (λ l h. Inside pre l) (λ x. Has pre x) own
-        → Judged lo hi (UnhurtBy at k others) (Rubbed at k others) near
-        → Judged lo hi (RestAll at es others) (Stirred at es others) far
+    pub fine_judged : (own near far calm v : Verdict) → calm ≡ both_of near far → v ≡ both_of own calm
+        → Judged lo hi (λ l h. Inside (at i).precondition l) (λ x. Has (at i).precondition x) own
+        → Judged lo hi (UnhurtBy at i Others) (Concerns at step) near
+        → Judged lo hi (RestAll at (at i).effects Others) (Stirred at (at i).effects Others) far
         → Judged lo hi (Fine at step i) (Concerns at step) v
-    fine_judged k pre es ek ep ee own near far calm v ec ev jo jn jf =
+    fine_judged own near far calm v ec ev jo jn jf =
         let P : ℕ → ℕ → Type 0 = λ l h. Inside (at i).precondition l in
         let o : Judged lo hi P (Concerns at step) own =
-        judged_named lo hi P (λ x. Has (at i).precondition x) (Concerns at step) (λ x h. (i, hi-in, inl h)) own
-        (subst (λ (y : ℕ). Judged lo hi (λ l h. Inside y l) (λ x. Has y x) own) ep jo) in
+        judged_named lo hi P (λ x. Has (at i).precondition x) (Concerns at step) (λ x h. (i, hi-in, inl h)) own jo in
+        let r : Judged lo hi (RestAll at (at i).effects Others) (Concerns at step) far =
+        judged_named lo hi (RestAll at (at i).effects Others) (Stirred at (at i).effects Others) (Concerns at step) stirred_concerns far jf in
         judged_is lo hi (Fine at step i) (Concerns at step) _ v (sym (ev ∙ ap (both_of own) ec))
         (judged_both lo hi P (λ l h. UnhurtBy at i Others l h × RestAll at (at i).effects Others l h) (Concerns at step) own (both_of near far) o
-        (judged_both lo hi (UnhurtBy at i Others) (RestAll at (at i).effects Others) (Concerns at step) near far
-        (unhurt_concerns k ek near jn) (rest_concerns es ee far jf)))
-
--- ---- along the others, along the step
-
-module _ (at : ℕ → Action) (lo hi i others : ℕ) where
-  abbrev pub UnhurtWalk : ℕ → Verdict → Type 0
-  UnhurtWalk left v = Walk lo hi (λ j. Unhurt at i j) (Rubbed at i others) others left v
-
-  pub unhurt_start : UnhurtWalk others Yes
-  unhurt_start = walk_start lo hi (λ j. Unhurt at i j) (Rubbed at i others) others
-
-  module _ (left j : ℕ) (v one w : Verdict) (lt : others < 2 ^ 64) (ne : left ≡ 0 → ⊥) (e : w ≡ both_of v one) (a : UnhurtWalk left v)
-      (ej : j ≡ count_trailing_zeros 64 left) (o : Judged lo hi (Unhurt at i j) (λ x. Rubs at i (at j) x ⊎ Rubs at j (at i) x) one) where
-    here : Judged lo hi (Unhurt at i (count_trailing_zeros 64 left)) (Rubbed at i others) one
-    here =
-        judged_named lo hi (Unhurt at i (count_trailing_zeros 64 left)) _ (Rubbed at i others)
-        (λ x n. (count_trailing_zeros 64 left, pick_in left others a.0 lt ne, n)) one
-        (subst (λ (y : ℕ). Judged lo hi (Unhurt at i y) (λ x. Rubs at i (at y) x ⊎ Rubs at y (at i) x) one) ej o)
-
-    pub unhurt_more : UnhurtWalk (bit_and left (left - 1)) w
-    unhurt_more = walk_more lo hi (λ j. Unhurt at i j) (Rubbed at i others) others left v one w lt ne e a here
-
-    pub unhurt_none : w ≡ No → Judged lo hi (UnhurtBy at i others) (Rubbed at i others) No
-    unhurt_none = walk_no lo hi (λ j. Unhurt at i j) (Rubbed at i others) others left v one w lt ne e a here
-
-  pub unhurt_end : (left : ℕ) (v : Verdict) → left ≡ 0 → UnhurtWalk left v → Judged lo hi (UnhurtBy at i others) (Rubbed at i others) v
-  unhurt_end = walk_end lo hi (λ j. Unhurt at i j) (Rubbed at i others) others
-
-module _ (at : ℕ → Action) (lo hi step : ℕ) where
-  abbrev pub FineWalk : ℕ → Verdict → Type 0
-  FineWalk left v = Walk lo hi (λ i. Fine at step i) (Concerns at step) step left v
-
-  abbrev pub FriendWalk : ℕ → Verdict → Type 0
-  FriendWalk left v = Walk lo hi (λ i. UnhurtBy at i (minus step (2 ^ i))) (Concerns at step) step left v
+        (judged_both lo hi (UnhurtBy at i Others) (RestAll at (at i).effects Others) (Concerns at step) near far jn r))

@@ -1,7 +1,6 @@
 -- What effects do in the states between two masks, and what is open of their conditions.
 use Rattle.std.proofs.Common.{◌≡◌, ℕ, Bool, true, false, cond, T, eqb, ◌⊎◌, List, sym, refl, subst, inl, inr, eqb→eq}
 use lib.Bits.{bit_and, bit_or}
-use Rattle.std.proofs.lemmas.Bool.{ne_eqb}
 use Rattle.sets.specs.Sets.{Has, Inside, minus}
 use Rattle.sets.proofs.Bits.{has?}
 use Rattle.sets.proofs.Members.{not_in_none}
@@ -9,13 +8,11 @@ use Rattle.problem.specs.Actions.{Action, Among, gather, adds, deletes, fires, c
 use Rattle.problem.specs.declared.rows.EffectRow.{EffectRow}
 use Rattle.problem.proofs.Effects.{fires_inside, inside_fires, gather_from, gather_has}
 use Rattle.regression.specs.Spans.{conditions, reads, sure_gives, may_give, wanted}
-use Rattle.regression.proofs.Masks.{nothing, or_left, or_right, or_either, and_both, and_left, and_right, minus_has, minus_from, minus_not, some_in}
+use Rattle.sets.proofs.Parts.{or_left, or_right, or_either, and_both, and_left, and_right}
+use Rattle.regression.proofs.Masks.{nothing, minus_has, minus_from, minus_not, some_in}
 
 pub cond_zero : (x a b : ℕ) → x ≡ 0 → cond (eqb x 0) a b ≡ a
 cond_zero x a b e = rw e refl
-
-pub cond_other : (x a b : ℕ) → (x ≡ 0 → ⊥) → cond (eqb x 0) a b ≡ b
-cond_other x a b n = rw (ne_eqb x 0 n) refl
 
 -- ---- more fires in a larger state
 

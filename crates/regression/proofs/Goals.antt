@@ -11,7 +11,8 @@ use Rattle.regression.specs.Spans.{Between, sure_gives, may_give, Union, opens, 
 use Rattle.regression.specs.Matters.{GoalNames, Changes, Sways, Serving}
 use Rattle.regression.specs.Verdicts.{Judged, both_of, Asks}
 use Rattle.regression.specs.declared.verdict.Verdict.{Verdict}
-use Rattle.regression.proofs.Masks.{nothing, and_both, and_left, and_right, minus_has, minus_from, minus_not, some_in, so}
+use Rattle.sets.proofs.Parts.{and_both, and_left, and_right}
+use Rattle.regression.proofs.Masks.{nothing, minus_has, minus_from, minus_not, some_in, so}
 use Rattle.regression.proofs.Firing.{touch, open_in_hi, touched, settled_cuts, cuts_up, cuts_down, gives_up, gives_down, gives_settled}
 use Rattle.regression.proofs.Unions.{union_none}
 use Rattle.regression.proofs.Judging.{judged_both, judged_named, judged_is, asked}

@@ -10,7 +10,8 @@ use Rattle.regression.specs.Spans.{Between, reads, sure_gives, may_give, wanted,
 use Rattle.regression.specs.Matters.{Rubs, Touches}
 use Rattle.regression.specs.Verdicts.{Judged, Asks}
 use Rattle.regression.specs.declared.verdict.Verdict.{Verdict}
-use Rattle.regression.proofs.Masks.{nothing, or_left, or_right, or_either, or_none, and_both, and_left, and_right, minus_has, minus_from, some_in, so}
+use Rattle.sets.proofs.Parts.{or_left, or_right, or_either, and_both, and_left, and_right}
+use Rattle.regression.proofs.Masks.{nothing, or_none, minus_has, minus_from, some_in, so}
 use Rattle.regression.proofs.Firing.{touch, touched, open_in_hi, settled_cuts, settled_reads, cuts_up, gives_up, reads_up, gives_settled}
 use Rattle.regression.proofs.Naming.{deleter, giver, names_changed, names_read}
 use Rattle.regression.proofs.Judging.{asked}

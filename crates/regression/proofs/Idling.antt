@@ -1,16 +1,15 @@
 -- What an action is for, by masks.
-use Rattle.std.proofs.Common.{◌≡◌, ℕ, ◌-◌, ◌^◌, ◌<◌, eqb, Decides, sym, subst, inl, inr}
+use Rattle.std.proofs.Common.{◌≡◌, ℕ, eqb, Decides, sym, inl, inr}
 use lib.Bits.{bit_and, bit_or}
-use lib.Count.{count_trailing_zeros}
 use Rattle.std.proofs.lemmas.Bool.{eqb-true, eq-eqb}
-use Rattle.sets.specs.Sets.{Has, Inside, minus}
+use Rattle.sets.specs.Sets.{minus}
 use Rattle.sets.proofs.Bits.{has?}
 use Rattle.sets.proofs.Members.{not_in_none}
 use Rattle.problem.specs.Actions.{Action, cuts}
 use Rattle.problem.specs.Runs.{Goal}
-use Rattle.regression.specs.Spans.{sure_gives, may_give, Union, Idle, SomeIdle}
-use Rattle.regression.proofs.Masks.{or_either, or_none, and_both, and_left, and_right, minus_has, minus_from, minus_not, none_in, so}
-use Rattle.regression.proofs.Unions.{none_done, done_either, all_done}
+use Rattle.regression.specs.Spans.{sure_gives, may_give, Union, Idle}
+use Rattle.sets.proofs.Parts.{or_either, and_both, and_left, and_right}
+use Rattle.regression.proofs.Masks.{or_none, minus_has, minus_from, minus_not, none_in, so}
 
 module _ (at : ℕ → Action) (lo hi i others : ℕ) (q : Goal) (sg sc given deleted : ℕ)
     (ug : Union (sure_gives at lo hi) others sg) (uc : Union (cuts at lo) others sc)
@@ -49,23 +48,3 @@ module _ (at : ℕ → Action) (lo hi i others : ℕ) (q : Goal) (sg sc given de
 
   pub idle_decides : Decides (eqb (bit_or given deleted) 0) (Idle at i others q lo hi)
   idle_decides = ((λ t. idle_from (eqb-true _ _ t)), (λ d. eq-eqb _ _ (idle_to d)))
-
--- ---- along the step
-
-module _ (at : ℕ → Action) (lo hi step : ℕ) (q : Goal) where
-  -- none of the actions that are done is idle
-  abbrev pub NoneIdle : ℕ → Type 0
-  NoneIdle left = (i : ℕ) → Has (minus step left) i → Idle at i (minus step (2 ^ i)) q lo hi → ⊥
-
-  pub none_start : NoneIdle step
-  none_start i h = absurd (none_done step i h)
-
-  pub none_more : (left : ℕ) (sub : Inside left step) (lt : step < 2 ^ 64) (ne : left ≡ 0 → ⊥)
-      → (Idle at (count_trailing_zeros 64 left) (minus step (2 ^ count_trailing_zeros 64 left)) q lo hi → ⊥) → NoneIdle left → NoneIdle (bit_and left (left - 1))
-  none_more left sub lt ne n f i h = elim (done_either step left sub lt ne i h) [
-    | inl x ↦ f i x
-    | inr e ↦ (λ d. n (subst (λ (y : ℕ). Idle at y (minus step (2 ^ y)) q lo hi) e d))
-  ]
-
-  pub none_end : (left : ℕ) → left ≡ 0 → NoneIdle left → SomeIdle at step q lo hi → ⊥
-  none_end left e f s = f s.0 (so _ _ s.0 (sym (all_done step left e)) s.1) s.2

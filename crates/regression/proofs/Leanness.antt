@@ -15,7 +15,8 @@ use Rattle.regression.specs.Reaching.{Reaches, Lean}
 use Rattle.regression.specs.Nodes.{Pair, Lies}
 use Rattle.regression.specs.Roots.{Useful, Helps}
 use Rattle.regression.specs.declared.node.Node.{Node}
-use Rattle.regression.proofs.Masks.{or_right, minus_from, some_member, not?}
+use Rattle.sets.proofs.Parts.{or_right}
+use Rattle.regression.proofs.Masks.{minus_from, some_member, not?}
 use Rattle.regression.proofs.Reaching.{step_lt, reaches_sure, idle_reaches, lean_busy}
 
 -- ---- idleness can be decided

@@ -1,10 +1,13 @@
 pub mod Masks
+pub mod Taking
 pub mod Unions
 pub mod Rows
 pub mod Firing
+pub mod Telling
+pub mod Totalling
 pub mod Judging
 pub mod Goals
-pub mod Along
+pub mod Places
 pub mod Naming
 pub mod Hurting
 pub mod Resting

@@ -14,8 +14,8 @@ use Rattle.problem.specs.declared.problem.Problem.{Problem}
 use Rattle.problem.proofs.Effects.{gather_alike, alike_all, same_tests, fires_inside, inside_fires}
 use Rattle.problem.proofs.Placing.{row_past}
 use Rattle.regression.specs.Spans.{Reached, Helped, Fine, Sure, Idle, SomeIdle, reads}
-use Rattle.regression.proofs.Masks.{or_left, and_both, and_left}
-use Rattle.regression.proofs.Along.{at_among}
+use Rattle.sets.proofs.Parts.{or_left, and_both, and_left}
+use Rattle.regression.proofs.Places.{at_among}
 
 -- the actions name only the first 64 atoms
 pub record Narrow (at : ℕ → Action) : Type 0 where

@@ -1,34 +1,16 @@
 -- Unions, parts and differences by their members.
 use Rattle.std.proofs.Common.{◌≡◌, ℕ, zero, suc, ◌%◌, ◌^◌, ◌<◌, ◌≤◌, ◌⊎◌, refl, ap, ◌∙◌, subst, inl, inr, arith}
 use native.Mathlib.Decide.{ℕ_discrete}
-use lib.Bits.{bit_and, bit_or}
+use lib.Bits.{bit_or}
 use lib.Arith.{bin_ind}
 use lib.Count.{ones}
 use Rattle.sets.specs.Sets.{bit, Has, Inside, minus}
-use Rattle.sets.proofs.Bits.{bit_digit, bit_zero, bit_suc, bit_of_or, bit_of_and, bit_none, bit_minus, same_bits, same_members, has?}
+use Rattle.sets.proofs.Bits.{bit_digit, bit_zero, bit_suc, bit_of_or, bit_none, bit_minus, same_bits, same_members, has?}
 use Rattle.sets.proofs.Members.{bit_other, not_in_none, has_lt, ones_minus, ones_mono}
 use Rattle.problem.proofs.Listed.{left_has}
 
 pub nothing : (k : ℕ) → Has 0 k → ⊥
 nothing k h = not_in_none 0 k refl h
-
-pub or_left : (a b k : ℕ) → Has a k → Has (bit_or a b) k
-or_left a b k h = omega (arith, bit_of_or a b k, h, bit_digit b k)
-
-pub or_right : (a b k : ℕ) → Has b k → Has (bit_or a b) k
-or_right a b k h = omega (arith, bit_of_or a b k, h, bit_digit a k)
-
-pub or_either : (a b k : ℕ) → Has (bit_or a b) k → Has a k ⊎ Has b k
-or_either a b k h = elim (has? a k) [ yes x ↦ inl x | no x ↦ inr (omega (arith, bit_of_or a b k, h, bit_digit a k, bit_digit b k)) ]
-
-pub and_both : (a b k : ℕ) → Has a k → Has b k → Has (bit_and a b) k
-and_both a b k h i = omega (arith, bit_of_and a b k, h, i)
-
-pub and_left : (a b k : ℕ) → Has (bit_and a b) k → Has a k
-and_left a b k h = omega (arith, bit_of_and a b k, h, bit_digit a k, bit_digit b k)
-
-pub and_right : (a b k : ℕ) → Has (bit_and a b) k → Has b k
-and_right a b k h = omega (arith, bit_of_and a b k, h, bit_digit a k, bit_digit b k)
 
 pub minus_has : (a b k : ℕ) → Has a k → (Has b k → ⊥) → Has (minus a b) k
 minus_has a b k h n = omega (arith, bit_minus a b k, h, bit_digit b k)

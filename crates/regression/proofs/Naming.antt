@@ -6,7 +6,8 @@ use Rattle.problem.specs.declared.rows.EffectRow.{EffectRow}
 use Rattle.problem.proofs.Effects.{gather_from}
 use Rattle.regression.specs.Spans.{reads, may_give}
 use Rattle.regression.specs.Matters.{Changes, ActionNames}
-use Rattle.regression.proofs.Masks.{or_either, minus_from}
+use Rattle.sets.proofs.Parts.{or_either}
+use Rattle.regression.proofs.Masks.{minus_from}
 
 module _ (at : ℕ → Action) where
   pub adder : (s i k : ℕ) → Has (adds s (at i).effects) k → (e : EffectRow) × Among e (at i).effects × Changes e k

@@ -1,5 +1,5 @@
 -- A step leads into a goal exactly where each of its actions is fine and together they reach it.
-use Rattle.std.proofs.Common.{◌≡◌, ℕ, ◌-◌, ◌^◌, ◌<◌, ◌≤◌, ◌≢◌, ◌⊎◌, sym, refl, ◌∙◌, subst, subst₂, inl, inr, arith}
+use Rattle.std.proofs.Common.{◌≡◌, ℕ, Bool, true, Decides, ◌-◌, ◌^◌, ◌<◌, ◌≤◌, ◌≢◌, ◌⊎◌, sym, refl, ◌∙◌, subst, inl, inr, arith}
 use native.Mathlib.Decide.{ℕ_discrete}
 use Rattle.sets.specs.Sets.{Has, Inside, Apart, minus}
 use Rattle.sets.proofs.Bits.{has?, bit_digit, bit_minus, same_bits, and_inside, and_not}
@@ -14,15 +14,15 @@ use Rattle.problem.proofs.Effects.{fires_inside, inside_fires, gather_from, gath
 use Rattle.problem.proofs.Listed.{left_in, left_other, left_has, every_firm, firm_every}
 use Rattle.problem.proofs.CalmRuns.{calm_every, calm_ends}
 use Rattle.problem.proofs.FirmCalm.{firm_calm, firm_ends, part_calm}
-use Rattle.regression.specs.Regions.{region_goal, top_of}
+use Rattle.regression.specs.Regions.{top_of}
 use Rattle.regression.specs.Spans.{Between, Reached, Fine, Sure, Idle, SomeIdle}
 use Rattle.regression.specs.Matters.{GoalNames, Serving, Concerns, Matters}
 use Rattle.regression.specs.Verdicts.{Judged, both_of}
 use Rattle.regression.specs.Reaching.{Reaches, Lean, Surely, Judges}
-use Rattle.regression.specs.declared.region.Region.{Region}
 use Rattle.regression.specs.declared.verdict.Verdict.{Verdict}
 use Rattle.regression.specs.declared.verdict.Verdict.TheVariants.{Yes, No, Ask}
-use Rattle.regression.proofs.Masks.{or_left, or_right, or_either, and_both, minus_not, some_member, so}
+use Rattle.sets.proofs.Parts.{or_left, or_right, or_either, and_both}
+use Rattle.regression.proofs.Masks.{minus_not, some_member, so}
 use Rattle.regression.proofs.Judging.{judged_both, judged_named, judged_is}
 use Rattle.regression.proofs.Narrowing.{sure_narrow, some_idle_narrow}
 use Rattle.regression.proofs.Local.{low, low_lt, low_alike, sure_alike, some_idle_alike, problem_narrow}
@@ -177,7 +177,7 @@ top_avoids avoid x la h a =
     minus_not avoid avoid x (so _ _ x (and_not avoid avoid la la) (and_both avoid (2 ^ 64 - 1 - avoid) x a h)) a
 
 -- a state of the region, as far as its first 64 atoms go, lies between need and all but avoid
-pub low_between : (p : Region) → p.need < 2 ^ 64 → p.avoid < 2 ^ 64 → (s : ℕ) → Meets (region_goal p) s → Between p.need (top_of p) (low s)
+pub low_between : (p : Goal) → p.need < 2 ^ 64 → p.avoid < 2 ^ 64 → (s : ℕ) → Meets p s → Between p.need (top_of p) (low s)
 low_between p ln la s m = (
   (λ k h. (low_alike s).0 k (has_lt p.need k ln h) (m.holds k h)),
   and_inside (low s) (2 ^ 64 - 1 - p.avoid)
@@ -186,14 +186,14 @@ low_between p ln la s m = (
 )
 
 module _ (p : Problem) (q : Goal) (wn : q.need < 2 ^ 64) (wa : q.avoid < 2 ^ 64) (step : ℕ) (a : Step (task_of p) step)
-    (r : Region) (ln : r.need < 2 ^ 64) (la : r.avoid < 2 ^ 64) where
+    (r : Goal) (ln : r.need < 2 ^ 64) (la : r.avoid < 2 ^ 64) where
   few_actions : (task_of p).count ≤ 64
   few_actions = p.sized.2
 
   back : (s : ℕ) → Sure (task_of p).at step q (low s) (low s) → Sure (task_of p).at step q s s
   back s = sure_alike (task_of p).at (problem_narrow p) (low s) s ((low_alike s).1, (low_alike s).0) q (below_within 64 _ wn) (below_within 64 _ wa) step
 
-  pub surely_reaches : Surely (task_of p) q step r → (s : ℕ) → Meets (region_goal r) s → Reaches (task_of p) q s step
+  pub surely_reaches : Surely (task_of p) q step r → (s : ℕ) → Meets r s → Reaches (task_of p) q s step
   surely_reaches f s m =
       let b = low_between r ln la s m in
       sure_reaches (task_of p) few_actions q s step a
@@ -201,7 +201,7 @@ module _ (p : Problem) (q : Goal) (wn : q.need < 2 ^ 64) (wa : q.avoid < 2 ^ 64)
 
   -- what holds in no state between the masks holds in no state of the region
   pub never_sure : ((s : ℕ) → Between r.need (top_of r) s → Sure (task_of p).at step q s s → ⊥)
-      → (s : ℕ) → Meets (region_goal r) s → Reaches (task_of p) q s step → ⊥
+      → (s : ℕ) → Meets r s → Reaches (task_of p) q s step → ⊥
   never_sure n s m g =
       n (low s) (low_between r ln la s m)
       (sure_alike (task_of p).at (problem_narrow p) s (low s) (low_alike s) q (below_within 64 _ wn) (below_within 64 _ wa) step
@@ -218,15 +218,6 @@ module _ (p : Problem) (q : Goal) (wn : q.need < 2 ^ 64) (wa : q.avoid < 2 ^ 64)
   judges Yes j = (j, surely_reaches j)
   judges No j = λ s m g lean. never_sure j s m g
   judges (Ask x) j = (has_lt (2 ^ 64 - 1 - r.avoid) x (omega arith) j.0, j.1, top_avoids r.avoid x la j.0, j.2, j.3)
-
-  -- the same of masks that are those of the region
-  pub judges_at : (lo hi : ℕ) → lo ≡ r.need → hi ≡ top_of r → (v : Verdict)
-      → Judged lo hi (Sure (task_of p).at step q) (Matters (task_of p).at step q) v → Judges (task_of p) q step r v
-  judges_at lo hi el eh v j =
-      judges v (subst₂ (λ (x y : ℕ). Judged x y (Sure (task_of p).at step q) (Matters (task_of p).at step q) v) el eh j)
-
-  pub idle_judges_at : (lo hi : ℕ) → lo ≡ r.need → hi ≡ top_of r → SomeIdle (task_of p).at step q lo hi → Judges (task_of p) q step r No
-  idle_judges_at lo hi el eh d = idle_judges (subst₂ (λ (x y : ℕ). SomeIdle (task_of p).at step q x y) el eh d)
 
 -- ---- firm and reached together
 
@@ -248,13 +239,20 @@ module _ (at : ℕ → Action) (lo hi step : ℕ) (q : Goal) where
       let j : Judged lo hi (Reached at step q) (λ x. GoalNames q x ⊎ Serving at step q x) No = judged_is lo hi (Reached at step q) _ b No e jb in
       λ s w f. j s w f.1
 
-  -- the verdict is yes wherever it is sure, if there is a state at all
-  pub sure_yes : Inside lo hi → (v : Verdict) → Judged lo hi (Sure at step q) (Matters at step q) v → (v ≡ Yes → ⊥) → Sure at step q lo hi → ⊥
-  sure_yes sub Yes j n f = n refl
-  sure_yes sub No j n f = j lo ((λ k h. h), sub) (sure_narrow at lo hi lo lo (λ k h. h) sub step q f)
-  sure_yes sub (Ask x) j n f = j.3 f
+  -- the verdict is yes just where it is sure, if there is a state at all
+  pub sure_decides : Inside lo hi → (v : Verdict) → Judged lo hi (Sure at step q) (Matters at step q) v
+      → (b : Bool) → (b ≡ true → v ≡ Yes) → (v ≡ Yes → b ≡ true) → Decides b (Sure at step q lo hi)
+  sure_decides sub v j b is yes' = (
+    (λ e. judged_is lo hi (Sure at step q) (Matters at step q) v Yes (is e) j),
+    λ f. by v j yes' f,
+  )
+    where
+      by : (v : Verdict) → Judged lo hi (Sure at step q) (Matters at step q) v → (v ≡ Yes → b ≡ true) → Sure at step q lo hi → b ≡ true
+      by Yes j y f = y refl
+      by No j y f = absurd (j lo ((λ k h. h), sub) (sure_narrow at lo hi lo lo (λ k h. h) sub step q f))
+      by (Ask x) j y f = absurd (j.3 f)
 
 -- need lies below all but avoid
-pub need_below : (p : Region) → p.need < 2 ^ 64 → p.avoid < 2 ^ 64 → Apart p.need p.avoid → Inside p.need (top_of p)
+pub need_below : (p : Goal) → p.need < 2 ^ 64 → p.avoid < 2 ^ 64 → Apart p.need p.avoid → Inside p.need (top_of p)
 need_below p ln la f =
     and_inside p.need (2 ^ 64 - 1 - p.avoid) (and_not p.need p.avoid ln la ∙ not_in p.need p.avoid (λ k a n. f k n a))

@@ -1,23 +1,24 @@
 -- Verdicts on effects that must not come to fire, and on preconditions.
-use Rattle.std.proofs.Common.{◌≡◌, ℕ, ◌+◌, ◌<◌, Bool, true, false, cond, T, eqb, ◌⊎◌, List, length, sym, refl, subst, inl, inr, eqb→eq}
+use Rattle.std.proofs.Common.{◌≡◌, ℕ, ◌+◌, ◌<◌, ◌≤◌, Bool, true, false, cond, T, eqb, ◌⊎◌, List, length, sym, refl, ap, ◌∙◌, subst, inl, inr, eqb→eq, arith}
+use native.Mathlib.Decide.{ℕ_discrete}
 use lib.Bits.{bit_and}
 use Rattle.sets.specs.Sets.{Has, Inside, Apart, minus}
 use Rattle.sets.proofs.Bits.{has?, inside_and, and_inside, apart_and, and_apart}
 use Rattle.sets.proofs.Members.{not_in_none}
-use Rattle.problem.specs.Actions.{Action, adds, deletes, cuts}
+use Rattle.problem.specs.Actions.{Action, Among, adds, deletes, cuts}
 use Rattle.problem.specs.Rows.{effect_at}
 use Rattle.problem.specs.declared.rows.EffectRow.{EffectRow}
 use Rattle.regression.specs.Spans.{Between, may_give, Union, opens, may_help, Helped, Rest, RestAll}
 use Rattle.regression.specs.Matters.{Stirs, Sways, Stirred}
-use Rattle.regression.specs.Verdicts.{Judged, both_of, Asks}
+use Rattle.regression.specs.Verdicts.{Judged, both_of, OfAll, Asks}
 use Rattle.regression.specs.declared.verdict.Verdict.{Verdict}
-use Rattle.regression.specs.declared.verdict.Verdict.TheVariants.{Yes, No}
-use Rattle.regression.proofs.Masks.{nothing, and_both, and_left, and_right, minus_has, minus_from, minus_not, some_in, so}
+use Rattle.sets.proofs.Parts.{and_both, and_left, and_right}
+use Rattle.regression.proofs.Masks.{nothing, minus_has, minus_from, minus_not, some_in, so}
 use Rattle.regression.proofs.Firing.{cond_zero, settled_adds, settled_cuts, cuts_down, gives_up}
 use Rattle.regression.proofs.Naming.{giver}
 use Rattle.regression.proofs.Unions.{union_none}
-use Rattle.regression.proofs.Judging.{asked, judged_named}
-use Rattle.regression.proofs.Along.{Through, through_start, through_more, through_no, through_end, among_at}
+use Rattle.regression.proofs.Judging.{asked, judged_named, all_more, all_judged}
+use Rattle.regression.proofs.Places.{among_at, at_among}
 use Rattle.regression.proofs.Goals.{sways}
 
 help_from : (x g k : ℕ) (b : Bool) → eqb x 0 ≡ b → Has (cond b g 0) k → (x ≡ 0) × Has g k
@@ -142,24 +143,32 @@ module _ (lo hi c missing : ℕ) (em : missing ≡ minus c lo) where
 
 -- ---- along the effects of an action
 
+-- the effect stands before the place n
+abbrev pub Before : List EffectRow → ℕ → EffectRow → Type 0
+Before es n e = (m : ℕ) × (m < n) × (e ≡ effect_at es m)
+
 module _ (at : ℕ → Action) (lo hi others : ℕ) (es : List EffectRow) where
-  abbrev pub Resting : ℕ → Verdict → Type 0
-  Resting i v = Through lo hi (λ e. Rest at others e.condition) (Stirred at es others) es i v
+  -- the verdict on one effect
+  abbrev pub RestsIn : EffectRow → Verdict → Type 0
+  RestsIn e v = Judged lo hi (Rest at others e.condition) (Stirred at es others) v
 
-  pub resting_start : Resting 0 Yes
-  resting_start = through_start lo hi (λ e. Rest at others e.condition) (Stirred at es others) es
+  pub one_before : (n : ℕ) → n < length es → (v last : Verdict) → OfAll (Before es n) RestsIn v
+      → Judged lo hi (Rest at others (effect_at es n).condition)
+      (λ x. (Has (effect_at es n).condition x × Stirs at others (effect_at es n).condition) ⊎ Sways at others (effect_at es n).condition x) last
+      → OfAll (Before es (n + 1)) RestsIn (both_of v last)
+  one_before n h v last a o =
+      all_more (Before es n) (Before es (n + 1)) (effect_at es n) RestsIn (λ e b. (b.0, omega (arith, b.1), b.2)) (n, omega arith, refl)
+      (λ e b. elim (ℕ_discrete b.0 n) [
+        | yes q ↦ inr (b.2 ∙ ap (effect_at es) q)
+        | no q ↦ inl (b.0, omega (arith, b.1), b.2)
+      ]) v last a
+      (judged_named lo hi (Rest at others (effect_at es n).condition) _ (Stirred at es others) (λ x m. (effect_at es n, among_at es n h, m)) last o)
 
-  module _ (i : ℕ) (h : i < length es) (v one w : Verdict) (e : w ≡ both_of v one) (a : Resting i v)
-      (o : Judged lo hi (Rest at others (effect_at es i).condition)
-      (λ x. (Has (effect_at es i).condition x × Stirs at others (effect_at es i).condition) ⊎ Sways at others (effect_at es i).condition x) one) where
-    here : Judged lo hi (Rest at others (effect_at es i).condition) (Stirred at es others) one
-    here = judged_named lo hi (Rest at others (effect_at es i).condition) _ (Stirred at es others) (λ x n. (effect_at es i, among_at es i h, n)) one o
+  pub among_rests : {v : Verdict} → OfAll (λ e. Among e es) RestsIn v → Judged lo hi (RestAll at es others) (Stirred at es others) v
+  among_rests a = all_judged lo hi (λ e. Rest at others e.condition) (Stirred at es others) a (λ e w m j. j)
 
-    pub resting_more : Resting (i + 1) w
-    resting_more = through_more lo hi (λ e. Rest at others e.condition) (Stirred at es others) es i h v one w e a here
+  pub before_among : (n : ℕ) → n ≤ length es → (e : EffectRow) → Before es n e → Among e es
+  before_among n h e b = subst (λ (y : EffectRow). Among y es) (sym b.2) (among_at es b.0 (omega (arith, b.1)))
 
-    pub resting_no : w ≡ No → Judged lo hi (RestAll at es others) (Stirred at es others) No
-    resting_no = through_no lo hi (λ e. Rest at others e.condition) (Stirred at es others) es i h v one w e a here
-
-  pub resting_end : (i : ℕ) (v : Verdict) → i ≡ length es → Resting i v → Judged lo hi (RestAll at es others) (Stirred at es others) v
-  resting_end = through_end lo hi (λ e. Rest at others e.condition) (Stirred at es others) es
+  pub among_before : (n : ℕ) → n ≡ length es → (e : EffectRow) → Among e es → Before es n e
+  among_before n h e m = let r = at_among es e m in (r.0, omega (arith, r.1), r.2)

@@ -1,13 +1,18 @@
 -- The actions that help, one by one.
-use Rattle.std.proofs.Common.{◌≡◌, ℕ, ◌+◌, ◌^◌, ◌<◌, sym, subst, inl, inr, arith}
+use Rattle.std.proofs.Common.{◌≡◌, ℕ, ◌+◌, ◌^◌, ◌<◌, Bool, true, false, List, length, Decides, MatchBool, refl, sym, subst, inl, inr, arith}
+use Rattle.std.specs.List.{AllWithin, HoldsAt}
+use Rattle.std.proofs.lemmas.Bool.{false≢true}
 use native.Mathlib.Decide.{ℕ_discrete}
 use lib.Bits.{bit_and, bit_or}
 use Rattle.sets.specs.Sets.{Has, Marks}
 use Rattle.sets.proofs.Members.{bit_one, not_in_none}
+use Rattle.problem.specs.Rows.{effect_at}
 use Rattle.problem.specs.Runs.{Goal}
 use Rattle.problem.specs.declared.rows.EffectRow.{EffectRow}
-use Rattle.regression.specs.Roots.{Useful}
-use Rattle.regression.proofs.Masks.{nothing, or_left, or_right, or_either, and_both, and_left, and_right, some_in, one_only, so}
+use Rattle.regression.specs.Roots.{Useful, Helps}
+use Rattle.regression.proofs.Places.{among_at, at_among}
+use Rattle.sets.proofs.Parts.{or_left, or_right, or_either, and_both, and_left, and_right}
+use Rattle.regression.proofs.Masks.{nothing, some_in, one_only, so}
 
 pub useful_from : (q : Goal) (e : EffectRow) → (bit_or (bit_and e.add q.need) (bit_and e.delete q.avoid) ≡ 0 → ⊥) → Useful q e
 useful_from q e n =
@@ -25,6 +30,25 @@ useless q e z u =
       | inl a ↦ or_left _ _ u.0 (and_both e.add q.need u.0 a.0 a.1)
       | inr b ↦ or_right _ _ u.0 (and_both e.delete q.avoid u.0 b.0 b.1)
     ])
+
+-- the bits of an effect by which it is useful
+abbrev pub use_of : Goal → EffectRow → ℕ
+use_of q e = bit_or (bit_and e.add q.need) (bit_and e.delete q.avoid)
+
+-- what `any` says of the effects
+pub helps_decides : (q : Goal) (es : List EffectRow) (r : Bool)
+    → MatchBool r ((k : ℕ) × (k < length es) × HoldsAt (λ e. use_of q e ≡ 0 → ⊥) es k) (AllWithin (λ e. use_of q e ≡ 0) es 0 (length es))
+    → Decides r (Helps q es)
+helps_decides q es true m = (
+  (λ _. (effect_at es m.0, among_at es m.0 m.1, useful_from q (effect_at es m.0) (m.2 _))),
+  λ _. refl,
+)
+helps_decides q es false m = (
+  (λ z. absurd (false≢true z)),
+  λ h. absurd (
+      let r = at_among es h.0 h.1 in
+      useless q (effect_at es r.0) (m r.0 _ (omega arith) r.1) (subst (Useful q) r.2 h.2)),
+)
 
 -- the numbers below i of which H holds, one more number later
 module _ (H : ℕ → Type 0) where

@@ -13,17 +13,17 @@ use Rattle.problem.specs.Problems.{task_of}
 use Rattle.problem.specs.declared.problem.Problem.{Problem}
 use Rattle.problem.proofs.Listed.{left_in, left_other, left_has, firm_every}
 use Rattle.problem.proofs.FirmCalm.{firm_calm}
-use Rattle.regression.specs.Regions.{region_goal, top_of}
+use Rattle.regression.specs.Regions.{top_of}
 use Rattle.regression.specs.Spans.{Between, UnhurtBy}
 use Rattle.regression.specs.Matters.{GoalNames, ActionNames, Matters}
 use Rattle.regression.specs.Reaching.{Reaches, Lean, Judges}
 use Rattle.regression.specs.declared.verdict.Verdict.TheVariants.{No}
 use Rattle.regression.specs.Nodes.{Pair, Lies, Named, Splits, Expanded, WithAction, Hopeless, closed}
-use Rattle.regression.specs.declared.region.Region.{Region}
 use Rattle.regression.specs.declared.node.Node.{Node}
 use Rattle.regression.specs.declared.node.Next.{Next}
 use Rattle.regression.specs.declared.node.Next.TheVariants.{Drop, Due, Split}
-use Rattle.regression.proofs.Masks.{nothing, or_left, or_right, or_either, minus_has, minus_from, minus_not, and_both, one_only, same_size, so}
+use Rattle.sets.proofs.Parts.{or_left, or_right, or_either, and_both}
+use Rattle.regression.proofs.Masks.{nothing, minus_has, minus_from, minus_not, one_only, same_size, so}
 use Rattle.regression.proofs.Local.{low, low_alike, fine_alike, problem_narrow}
 use Rattle.regression.proofs.Reaching.{step_lt, reaches_calm, calm_fine, low_between}
 
@@ -34,10 +34,10 @@ matters_names at step q x (inl (inr s)) = inr (s.0, s.1, inr (s.2.0, s.2.1, inl 
 matters_names at step q x (inr c) = inr (c.0, c.1, elim c.2 [ inl p ↦ inl p | inr r ↦ inr (r.3.0, r.3.1, inl r.3.2) ])
 
 -- the atoms of a region that are undecided
-abbrev free : Region → ℕ
+abbrev free : Goal → ℕ
 free p = minus (2 ^ 64 - 1) (bit_or p.need p.avoid)
 
-fewer_free : (p r : Region) → Inside (bit_or p.need p.avoid) (bit_or r.need r.avoid) → Inside (free r) (free p)
+fewer_free : (p r : Goal) → Inside (bit_or p.need p.avoid) (bit_or r.need r.avoid) → Inside (free r) (free p)
 fewer_free p r sub k h =
     minus_has (2 ^ 64 - 1) (bit_or p.need p.avoid) k (minus_from _ _ k h) (λ x. minus_not _ _ k h (sub k x))
 
@@ -75,7 +75,7 @@ module _ (t : Task) (few : t.count ≤ 64) (q : Goal) (n a b : Node) (k : ℕ) (
 
   second_of : (s step : ℕ) → Lies n s step → (Has step k → ⊥) → Lies b s step
   second_of s step l no-k = record {
-    meets = subst (λ (y : Region). Meets (region_goal y) s) (sym br) l.meets;
+    meets = subst (λ (y : Goal). Meets y s) (sym br) l.meets;
     least = λ j hj. l.least j (so _ _ j bc hj);
     most = λ j hj. elim (or_either _ _ j (l.most j hj)) [
       | inl x ↦ or_left _ _ j (so _ _ j (sym bc) x)
@@ -97,7 +97,7 @@ module _ (t : Task) (few : t.count ≤ 64) (q : Goal) (n a b : Node) (k : ℕ) (
   ]
 
   named_b : Named t q n → Named t q b
-  named_b f j h = elim (f j (subst (λ (y : Region). GoalNames (region_goal y) j) br h)) [
+  named_b f j h = elim (f j (subst (λ (y : Goal). GoalNames y j) br h)) [
     | inl g ↦ inl g
     | inr c ↦ inr (c.0, so _ _ c.0 (sym bc) c.1, c.2)
   ]
@@ -121,7 +121,7 @@ module _ (t : Task) (few : t.count ≤ 64) (q : Goal) (n a b : Node) (k : ℕ) (
       ];
     };
     second_in = λ s step x. record {
-      meets = subst (λ (y : Region). Meets (region_goal y) s) br x.meets;
+      meets = subst (λ (y : Goal). Meets y s) br x.meets;
       least = λ j hj. x.least j (so _ _ j (sym bc) hj);
       most = λ j hj. elim (or_either _ _ j (x.most j hj)) [
         | inl h ↦ or_left _ _ j (so _ _ j bc h)
@@ -134,26 +134,26 @@ module _ (t : Task) (few : t.count ≤ 64) (q : Goal) (n a b : Node) (k : ℕ) (
       ap ones wa.candidates,
       ones_minus n.candidates k hk,
     );
-    second_less = omega (arith, ap ones bd, ones_minus n.candidates k hk, ap (λ (y : Region). ones (free y)) br);
+    second_less = omega (arith, ap ones bd, ones_minus n.candidates k hk, ap (λ (y : Goal). ones (free y)) br);
     first_named = named_a;
     second_named = named_b;
   }
 
 -- ---- by an atom
 
-module _ (t : Task) (q : Goal) (chosen : ℕ) (p : Region) (x : ℕ) (lt : x < 64) (nn : Has p.need x → ⊥) (na : Has p.avoid x → ⊥)
+module _ (t : Task) (q : Goal) (chosen : ℕ) (p : Goal) (x : ℕ) (lt : x < 64) (nn : Has p.need x → ⊥) (na : Has p.avoid x → ⊥)
     (named : GoalNames q x ⊎ ((i : ℕ) × Has chosen i × ActionNames (t.at i) x)) where
-  abbrev needing : Region
+  abbrev needing : Goal
   needing = record { need = bit_or p.need (2 ^ x); avoid = p.avoid }
 
-  abbrev shunning : Region
+  abbrev shunning : Goal
   shunning = record { need = p.need; avoid = bit_or p.avoid (2 ^ x) }
 
   undecided_x : Has (free p) x
   undecided_x = minus_has (2 ^ 64 - 1) (bit_or p.need p.avoid) x ((all_marks 64).all x lt) (λ h. elim (or_either _ _ x h) [ inl a ↦ nn a | inr a ↦ na a ])
 
   -- one atom less is free
-  less : (r : Region) → Inside (bit_or p.need p.avoid) (bit_or r.need r.avoid) → Has (bit_or r.need r.avoid) x → ones (free r) < ones (free p)
+  less : (r : Goal) → Inside (bit_or p.need p.avoid) (bit_or r.need r.avoid) → Has (bit_or r.need r.avoid) x → ones (free r) < ones (free p)
   less r sub hx =
       omega (
         arith,
@@ -290,12 +290,12 @@ module _ (t : Task) (q : Goal) (n : Node) (c : ℕ) where
 
 -- ---- the chosen step alone
 
-pub closed_step : (chosen : ℕ) (p : Region) (s step : ℕ) → Lies (closed chosen p) s step → step ≡ chosen
+pub closed_step : (chosen : ℕ) (p : Goal) (s step : ℕ) → Lies (closed chosen p) s step → step ≡ chosen
 closed_step chosen p s step l =
     same_members step chosen (λ k h. elim (or_either chosen 0 k (l.most k h)) [ inl a ↦ a | inr b ↦ absurd (nothing k b) ]) l.least
 
 -- judged No: nothing lies there
-pub closed_none : (t : Task) (q : Goal) (chosen : ℕ) (p : Region) → Judges t q chosen p No
+pub closed_none : (t : Task) (q : Goal) (chosen : ℕ) (p : Goal) → Judges t q chosen p No
     → (s step : ℕ) → Pair t q s step → Lies (closed chosen p) s step → ⊥
 closed_none t q chosen p j s step pair l =
     let e = closed_step chosen p s step l in
@@ -316,7 +316,7 @@ no_step_none t q n few f s step pair l =
 
 -- ---- chosen actions that hurt one another
 
-pub hurt_hopeless : (p : Problem) (chosen : ℕ) (r : Region) → r.need < 2 ^ 64 → r.avoid < 2 ^ 64
+pub hurt_hopeless : (p : Problem) (chosen : ℕ) (r : Goal) → r.need < 2 ^ 64 → r.avoid < 2 ^ 64
     → ((s : ℕ) → Between r.need (top_of r) s → ((i : ℕ) → Has chosen i → UnhurtBy (task_of p).at i (minus chosen (2 ^ i)) s s) → ⊥)
     → Hopeless (task_of p) chosen r
 hurt_hopeless p chosen r ln la f s step end m sub firm =

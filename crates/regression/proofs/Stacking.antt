@@ -8,34 +8,31 @@ use Rattle.sets.proofs.Bits.{has?, same_members, bit_digit, bit_not, minus_le}
 use Rattle.sets.proofs.Members.{has_lt, not_in_none}
 use Rattle.problem.specs.Firm.{Task}
 use Rattle.problem.specs.Runs.{Goal, Meets}
-use Rattle.regression.specs.Regions.{region_goal, top_of}
+use Rattle.regression.specs.Regions.{top_of}
 use Rattle.regression.specs.Reaching.{MakesDue}
 use Rattle.regression.specs.Nodes.{Lies, undecided, Splits, Settles, Expanded}
 use Rattle.regression.specs.Stacks.{node_in, part_of, Slim, Orderly, Treated, Carried, Brings, weight, weights}
-use Rattle.regression.specs.declared.region.Region.{Region}
 use Rattle.regression.specs.declared.node.Node.{Node}
 use Rattle.regression.specs.declared.node.Next.{Next}
 use Rattle.regression.specs.declared.node.Next.TheVariants.{Drop, Due, Split}
-use Rattle.regression.proofs.Masks.{nothing, or_left, so}
+use Rattle.sets.proofs.Parts.{or_left}
+use Rattle.regression.proofs.Masks.{nothing, so}
 use Rattle.regression.proofs.Reaching.{top_avoids, need_below}
 
 -- ---- one node
 
-pub kept_treated : (t : Task) (q : Goal) (D : Goal → Type 0) (n : Node) → (D (region_goal n.region) → ⊥) → (r : Next) → Expanded t q n r → Treated t q D n r
+pub kept_treated : (t : Task) (q : Goal) (D : Goal → Type 0) (n : Node) → (D n.region → ⊥) → (r : Next) → Expanded t q n r → Treated t q D n r
 kept_treated t q D n f Drop e = λ s step pair l. absurd (e s step pair l)
 kept_treated t q D n f (Due p) e = (e, f)
 kept_treated t q D n f (Split a b) e = e
 
-pub dismissed_treated : (t : Task) (q : Goal) (D : Goal → Type 0) (n : Node) → D (region_goal n.region) → Treated t q D n Drop
-dismissed_treated t q D n d s step pair l = (region_goal n.region, d, l.meets)
-
 -- ---- the empty step
 
 -- what the empty step makes due is the goal itself
-due_own : (t : Task) (q : Goal) (p : Region) → q.need < 2 ^ 64 → q.avoid < 2 ^ 64 → p.need < 2 ^ 64 → p.avoid < 2 ^ 64
-    → MakesDue t q 0 (region_goal p) → (p.need ≡ q.need) × (p.avoid ≡ q.avoid)
+due_own : (t : Task) (q : Goal) (p : Goal) → q.need < 2 ^ 64 → q.avoid < 2 ^ 64 → p.need < 2 ^ 64 → p.avoid < 2 ^ 64
+    → MakesDue t q 0 p → (p.need ≡ q.need) × (p.avoid ≡ q.avoid)
 due_own t q p ln la lp lr d =
-    let stays : (s : ℕ) → Meets (region_goal p) s → Meets q s = λ s m.
+    let stays : (s : ℕ) → Meets p s → Meets q s = λ s m.
     let r = d.leads s m in
     subst (Meets q) (sym (r.firm.firm [] (record { once = tt; all = λ k h. absurd (nothing k h); only = λ k z. absurd z }))) r.meets in
     let low : Meets q p.need = stays p.need (record { holds = λ k h. h; lacks = λ k a h. d.apart k h a }) in
@@ -128,7 +125,7 @@ slim_length : (ns : List Node) → Slim ns → length ns ≤ 129
 slim_length [] s = omega arith
 slim_length (n ∷ ns) s = omega (arith, s.0)
 
-length_part : (nodes : List Node) (start n : ℕ) → length (part_of nodes start n) ≡ n
+pub length_part : (nodes : List Node) (start n : ℕ) → length (part_of nodes start n) ≡ n
 length_part nodes start zero = refl
 length_part nodes start (suc n) = ap suc (length_part nodes start n)
 
@@ -212,7 +209,7 @@ module _ (t : Task) (q : Goal) (D : Goal → Type 0) (before nodes : List Node) 
         omega (arith, s.0, f.first_less, length_part nodes start (left - 1))
 
   -- a node that is settled
-  module _ (p : Region) (f : Settles t q Top p) (keep : D (region_goal Top.region) → ⊥) where
+  module _ (p : Goal) (f : Settles t q Top p) (keep : D Top.region → ⊥) where
     needs : (k : ℕ) → Has p.need k → Has Top.region.need k
     needs k h = so _ _ k f.shrunk.need h
 
@@ -229,7 +226,7 @@ module _ (t : Task) (q : Goal) (D : Goal → Type 0) (before nodes : List Node) 
     apart : Apart p.need p.avoid
     apart k h a = f.apart k (needs k h) (f.shrunk.avoid k a)
 
-    named : Orderly t q before → MakesDue t q Top.chosen (region_goal p)
+    named : Orderly t q before → MakesDue t q Top.chosen p
     named o = record {
       apart = apart;
       leads = f.leads;
@@ -262,16 +259,10 @@ module _ (t : Task) (q : Goal) (D : Goal → Type 0) (before nodes : List Node) 
       least = f.shrunk.least;
       wider = (Top.region.avoid, f.shrunk.avoid, λ d. keep (subst (λ (y : ℕ). D (record { need = y; avoid = Top.region.avoid })) f.shrunk.need d));
       due = named;
-      own = λ o z. due_own t q p ln la lp lr (subst (λ (y : ℕ). MakesDue t q y (region_goal p)) z (named o));
+      own = λ o z. due_own t q p ln la lp lr (subst (λ (y : ℕ). MakesDue t q y p) z (named o));
     }
 
 -- ---- where work begins
-
-pub part_one : (nodes : List Node) (start : ℕ) (x : Node) → start < length nodes → part_of (set nodes start x) start 1 ≡ x ∷ []
-unfolding join
-part_one nodes start x lt =
-    let e : start + 0 ≡ start = omega arith in
-    ap (λ (y : Node). join y []) (ap (node_in (set nodes start x)) e ∙ get_or-set_same nodes start x _ lt)
 
 -- a part below is as it was
 pub part_kept : (xs ys : List Node) (start base n : ℕ) → take start xs ≡ take start ys → base + n ≤ start → part_of xs base n ≡ part_of ys base n

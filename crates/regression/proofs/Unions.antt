@@ -1,67 +1,54 @@
--- The members of a step, the lowest of what is left first, and the union of sets along them.
-use Rattle.std.proofs.Common.{◌≡◌, ℕ, ◌-◌, ◌^◌, ◌<◌, ◌⊎◌, sym, ap, subst, inl, inr, arith}
-use native.Mathlib.Decide.{ℕ_discrete}
-use lib.Bits.{bit_and, bit_or}
-use lib.Count.{ones, count_trailing_zeros}
-use Rattle.sets.specs.Sets.{bit, Has, Inside, minus}
-use Rattle.sets.proofs.Bits.{bit_none, bit_minus, same_bits}
-use Rattle.sets.proofs.Members.{bit_one, bit_other, low_has, low_rest, ones_minus, inside_lt}
-use Rattle.regression.specs.Spans.{Union}
-use Rattle.regression.proofs.Masks.{nothing, or_left, or_right, or_either, minus_has, minus_from, minus_not, none_in, so}
+-- The union of sets, one for each member of a set, as one more is put in.
+use Rattle.std.proofs.Common.{◌≡◌, ℕ, ◌⊎◌, sym, subst, inl, inr}
+use lib.Bits.{bit_or}
+use Rattle.sets.specs.Sets.{Has, Inside}
+use Rattle.regression.specs.Spans.{Union, UnionBy}
+use Rattle.sets.proofs.Parts.{or_left, or_right, or_either}
+use Rattle.regression.proofs.Masks.{nothing, none_in, so}
 
--- what is done, as the lowest of what is left is done too
-module _ (step left : ℕ) (sub : Inside left step) (lt : step < 2 ^ 64) (ne : left ≡ 0 → ⊥) where
-  rest : bit_and left (left - 1) ≡ minus left (2 ^ count_trailing_zeros 64 left)
-  rest = low_rest left (omega arith) (inside_lt left step sub lt)
+-- r is the union of sets of which P holds, one for each number of which In holds
+pub record Gathered (P : ℕ → ℕ → Type 0) (In : ℕ → Type 0) (r : ℕ) : Type 0 where
+  pub from : (k : ℕ) → Has r k → (j : ℕ) × In j × ((s : ℕ) × P j s × Has s k)
+  pub into : (j : ℕ) → In j → (s : ℕ) × P j s × Inside s r
 
-  here : Has left (count_trailing_zeros 64 left)
-  here = low_has left (omega arith) (inside_lt left step sub lt)
+pub gathered_none : {P : ℕ → ℕ → Type 0} {In : ℕ → Type 0} → ((j : ℕ) → In j → ⊥) → Gathered P In 0
+gathered_none n = record { from = λ k h. absurd (nothing k h); into = λ j h. absurd (n j h) }
 
-  pub fewer_left : ones (bit_and left (left - 1)) < ones left
-  fewer_left = omega (arith, ap ones rest, ones_minus left (count_trailing_zeros 64 left) here)
-
-  pub done_more : (j : ℕ) → Has (minus step left) j → Has (minus step (bit_and left (left - 1))) j
-  done_more j h = minus_has step (bit_and left (left - 1)) j (minus_from step left j h)
-      (λ x. minus_not step left j h (minus_from left (2 ^ count_trailing_zeros 64 left) j (so _ _ j rest x)))
-
-  pub done_now : Has (minus step (bit_and left (left - 1))) (count_trailing_zeros 64 left)
-  done_now =
-      let k : ℕ = count_trailing_zeros 64 left in
-      minus_has step (bit_and left (left - 1)) k (sub k here) (λ x. minus_not left (2 ^ k) k (so _ _ k rest x) (bit_one k))
-
-  pub done_either : (j : ℕ) → Has (minus step (bit_and left (left - 1))) j → Has (minus step left) j ⊎ (j ≡ count_trailing_zeros 64 left)
-  done_either j h = elim (ℕ_discrete j (count_trailing_zeros 64 left)) [
-    | yes e ↦ inr e
-    | no n ↦ inl (minus_has step left j (minus_from step (bit_and left (left - 1)) j h)
-        (λ x. minus_not step (bit_and left (left - 1)) j h
-        (so _ _ j (sym rest)
-        (minus_has left (2 ^ count_trailing_zeros 64 left) j x (λ z. let q : ⊥ = omega (arith, z, bit_other (count_trailing_zeros 64 left) j n) in q)))))
-  ]
-
-  pub union_more : (f : ℕ → ℕ) (acc one : ℕ) → one ≡ f (count_trailing_zeros 64 left) → Union f (minus step left) acc
-      → Union f (minus step (bit_and left (left - 1))) (bit_or acc one)
-  union_more f acc one e u = record {
-    from = λ k h. elim (or_either acc one k h) [
-      | inl x ↦ (let r = u.from k x in (r.0, done_more r.0 r.1, r.2))
-      | inr x ↦ (count_trailing_zeros 64 left, done_now, so _ _ k e x)
+module _ {P : ℕ → ℕ → Type 0} {In In' : ℕ → Type 0} {i : ℕ} (more : (j : ℕ) → In j → In' j) (now : In' i)
+    (either : (j : ℕ) → In' j → In j ⊎ (j ≡ i)) where
+  pub gathered_more : {all one : ℕ} → Gathered P In all → P i one → Gathered P In' (bit_or all one)
+  gathered_more {all} {one} u p = record {
+    from = λ k h. elim (or_either all one k h) [
+      | inl x ↦ (let r = u.from k x in (r.0, more r.0 r.1, r.2))
+      | inr x ↦ (i, now, (one, p, x))
     ];
-    into = λ j hj k h. elim (done_either j hj) [
-      | inl x ↦ or_left acc one k (u.into j x k h)
-      | inr x ↦ or_right acc one k (so _ _ k (sym e) (subst (λ (y : ℕ). Has (f y) k) x h))
+    into = λ j hj. elim (either j hj) [
+      | inl x ↦ (let r = u.into j x in (r.0, r.1, λ k h. or_left all one k (r.2 k h)))
+      | inr e ↦ (one, subst (λ (y : ℕ). P y one) (sym e) p, λ k h. or_right all one k h)
     ];
   }
 
-pub none_done : (step : ℕ) → (j : ℕ) → Has (minus step step) j → ⊥
-none_done step j h = minus_not step step j h (minus_from step step j h)
+pub gathered_all : {P : ℕ → ℕ → Type 0} {In : ℕ → Type 0} {set r : ℕ} → ((j : ℕ) → In j → Has set j) → ((j : ℕ) → Has set j → In j)
+    → Gathered P In r → UnionBy P set r
+gathered_all f g u = record {
+  from = λ k h. let x = u.from k h in (x.0, f x.0 x.1, x.2);
+  into = λ j h. u.into j (g j h);
+}
 
-pub union_start : (f : ℕ → ℕ) (step : ℕ) → Union f (minus step step) 0
-union_start f step = record { from = λ k h. absurd (nothing k h); into = λ j h. absurd (none_done step j h) }
+-- where P says which set it is
+pub union_is : {P : ℕ → ℕ → Type 0} {set r : ℕ} (f : ℕ → ℕ) → UnionBy P set r → ((j s : ℕ) → Has set j → P j s → s ≡ f j) → Union f set r
+union_is f u is = record {
+  from = λ k h. let x = u.from k h in (x.0, x.1, so _ _ k (is x.0 x.2.0 x.1 x.2.1) x.2.2);
+  into = λ j h k m. let x = u.into j h in x.2 k (so _ _ k (sym (is j x.0 h x.1)) m);
+}
 
-pub all_done : (step left : ℕ) → left ≡ 0 → minus step left ≡ step
-all_done step left e = same_bits _ _ (λ k. omega (arith, bit_minus step left k, ap (λ (x : ℕ). bit x k) e, bit_none k))
+-- the union of the sets that f has
+abbrev pub GatheredOf : (ℕ → ℕ) → (ℕ → Type 0) → ℕ → Type 0
+GatheredOf f In r = Gathered (λ j s. s ≡ f j) In r
 
-pub union_end : (f : ℕ → ℕ) (step left acc : ℕ) → left ≡ 0 → Union f (minus step left) acc → Union f step acc
-union_end f step left acc e u = subst (λ (y : ℕ). Union f y acc) (all_done step left e) u
+pub gathered_union : {f : ℕ → ℕ} {In : ℕ → Type 0} {set r : ℕ} → ((j : ℕ) → In j → Has set j) → ((j : ℕ) → Has set j → In j)
+    → GatheredOf f In r → Union f set r
+gathered_union {f} a b u = union_is f (gathered_all a b u) (λ j s _ e. e)
 
 pub union_none : (f : ℕ → ℕ) (step r : ℕ) → Union f step r → r ≡ 0 → (j : ℕ) → Has step j → f j ≡ 0
 union_none f step r u e j h = none_in (f j) (λ k x. nothing k (so _ _ k e (u.into j h k x)))

@@ -1,10 +1,9 @@
 -- What the rows say in which a step's actions are summed up.
-use Rattle.std.specs.Prelude.{◌≡◌, ℕ, ◌<◌, List, slice_index_or}
+use Rattle.std.specs.Prelude.{◌≡◌, ℕ, ◌<◌, List, Option, Some, None, slice_index_or}
 use Rattle.sets.specs.Sets.{Has}
 use Rattle.problem.specs.Actions.{Action, cuts}
 use Rattle.regression.specs.Spans.{reads, sure_gives, may_give, Union}
 use Rattle.regression.specs.declared.doing.Doing.{Doing}
-use Rattle.regression.specs.declared.doing.Doings.{Doings}
 use Rattle.regression.specs.declared.doing.Totals.{Totals}
 
 -- r bounds what the action i does in the states between lo and hi
@@ -17,19 +16,14 @@ pub record Does (at : ℕ → Action) (lo hi i : ℕ) (r : Doing) : Type 0 where
   pub read_sure : r.read.sure ≡ reads at lo i
   pub read_may : r.read.may ≡ reads at hi i
 
--- the row r
-abbrev pub doing_in : List Doing → ℕ → Doing
-doing_in rows r = slice_index_or rows r (record {
-  action = 0;
-  give = record { sure = 0; may = 0 };
-  cut = record { sure = 0; may = 0 };
-  read = record { sure = 0; may = 0 };
-})
+-- the row r, or none
+abbrev pub row_in : List (Option Doing) → ℕ → Option Doing
+row_in rows r = slice_index_or rows r None
 
--- each action of the step has its row, and the row of an action of the step bounds what it does
-pub record Tells (at : ℕ → Action) (step : ℕ) (d : Doings) : Type 0 where
-  pub row : (i : ℕ) → Has step i → (r : ℕ) × (r < 4) × ((doing_in d.rows r).action ≡ i)
-  pub does : (r : ℕ) → r < 4 → Has step (doing_in d.rows r).action → Does at d.lo d.hi (doing_in d.rows r).action (doing_in d.rows r)
+-- each action of the step has its row, and a row bounds what its action does between lo and hi
+pub record Tells (at : ℕ → Action) (step lo hi : ℕ) (rows : List (Option Doing)) : Type 0 where
+  pub row : (i : ℕ) → Has step i → (r : ℕ) × (r < 4) × ((d : Doing) × (row_in rows r ≡ Some d) × (d.action ≡ i))
+  pub does : (r : ℕ) (d : Doing) → r < 4 → row_in rows r ≡ Some d → Does at lo hi d.action d
 
 -- r bounds what the actions of the step do together
 pub record Totalled (at : ℕ → Action) (lo hi step : ℕ) (r : Totals) : Type 0 where

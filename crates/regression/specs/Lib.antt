@@ -3,6 +3,7 @@ pub mod Spans
 pub mod Matters
 pub mod Verdicts
 pub mod Doings
+pub mod Told
 pub mod Reaching
 pub mod Nodes
 pub mod Stacks

@@ -3,10 +3,9 @@ use Rattle.std.specs.Prelude.{ℕ, ◌<◌, ◌⊎◌, ◌≢◌}
 use Rattle.sets.specs.Sets.{Has, Inside, Apart}
 use Rattle.problem.specs.Firm.{Task, FirmStep}
 use Rattle.problem.specs.Runs.{Goal, Meets}
-use Rattle.regression.specs.Regions.{region_goal, top_of}
+use Rattle.regression.specs.Regions.{top_of}
 use Rattle.regression.specs.Spans.{Sure}
 use Rattle.regression.specs.Matters.{GoalNames, ActionNames, Matters}
-use Rattle.regression.specs.declared.region.Region.{Region}
 use Rattle.regression.specs.declared.verdict.Verdict.{Verdict}
 use Rattle.regression.specs.declared.verdict.Verdict.TheVariants.{Yes, No, Ask}
 
@@ -28,13 +27,13 @@ pub record MakesDue (t : Task) (q : Goal) (step : ℕ) (p : Goal) : Type 0 where
   pub names : (k : ℕ) → GoalNames p k → GoalNames q k ⊎ ((i : ℕ) × Has step i × ActionNames (t.at i) k)
 
 -- by what its actions surely and maybe do in the states of the region, the step leads into q from all of them
-abbrev pub Surely : Task → Goal → ℕ → Region → Type 0
+abbrev pub Surely : Task → Goal → ℕ → Goal → Type 0
 Surely t q step p = Sure t.at step q p.need (top_of p)
 
 -- of the states of the region: the step leads into q from each; or it leads lean into q from none; or that is not sure, and x is an
 -- atom in neither set on which it can turn
-abbrev pub Judges : Task → Goal → ℕ → Region → Verdict → Type 0
-Judges t q step p Yes = Surely t q step p × ((s : ℕ) → Meets (region_goal p) s → Reaches t q s step)
-Judges t q step p No = (s : ℕ) → Meets (region_goal p) s → Reaches t q s step → Lean t q s step → ⊥
+abbrev pub Judges : Task → Goal → ℕ → Goal → Verdict → Type 0
+Judges t q step p Yes = Surely t q step p × ((s : ℕ) → Meets p s → Reaches t q s step)
+Judges t q step p No = (s : ℕ) → Meets p s → Reaches t q s step → Lean t q s step → ⊥
 Judges t q step p (Ask x) =
     (x < 64) × (Has p.need x → ⊥) × (Has p.avoid x → ⊥) × Matters t.at step q x × (Surely t q step p → ⊥)

@@ -1,6 +1,6 @@
 -- What the actions of a step do in all the states between two masks, and in some of them. Where both masks are one state, "surely"
 -- and "maybe" are what is done in that state.
-use Rattle.std.specs.Prelude.{ℕ, ◌^◌, cond, ◌⊎◌, List, ◌==◌, bit_and, bit_or}
+use Rattle.std.specs.Prelude.{◌≡◌, ℕ, ◌^◌, cond, ◌⊎◌, List, ◌==◌, bit_and, bit_or}
 use Rattle.sets.specs.Sets.{Has, Inside, Apart, minus}
 use Rattle.problem.specs.Actions.{Action, Among, gather, adds, deletes, cuts}
 use Rattle.problem.specs.Runs.{Goal}
@@ -13,6 +13,10 @@ Between lo hi s = Inside lo s × Inside s hi
 -- the conditions of the effects that fire in s
 abbrev pub conditions : ℕ → List EffectRow → ℕ
 conditions s es = gather (λ e. e.condition) s es
+
+-- r is the union of one set of each effect that fires in s, those of which P holds
+abbrev pub GatheredBy : (EffectRow → ℕ → Type 0) → ℕ → List EffectRow → ℕ → Type 0
+GatheredBy P s es r = (part : EffectRow → ℕ) → ((e : EffectRow) (x : ℕ) → P e x → x ≡ part e) → r ≡ gather part s es
 
 -- what the action i must find in s: its precondition, and the conditions of what it fires
 abbrev pub reads : (ℕ → Action) → ℕ → ℕ → ℕ
@@ -29,6 +33,11 @@ may_give at lo hi i = minus (adds hi (at i).effects) (deletes lo (at i).effects)
 pub record Union (f : ℕ → ℕ) (step r : ℕ) : Type 0 where
   pub from : (k : ℕ) → Has r k → (j : ℕ) × Has step j × Has (f j) k
   pub into : (j : ℕ) → Has step j → Inside (f j) r
+
+-- r is the union of sets of which P holds, one for each member of step
+pub record UnionBy (P : ℕ → ℕ → Type 0) (step r : ℕ) : Type 0 where
+  pub from : (k : ℕ) → Has r k → (j : ℕ) × Has step j × ((s : ℕ) × P j s × Has s k)
+  pub into : (j : ℕ) → Has step j → (s : ℕ) × P j s × Inside s r
 
 -- the part above lo of an effect's condition, if the effect adds an atom of add, deletes one of delete or has one of read in its condition
 abbrev pub wanted : ℕ → ℕ → ℕ → ℕ → EffectRow → ℕ

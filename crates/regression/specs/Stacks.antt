@@ -3,10 +3,8 @@ use Rattle.std.specs.Prelude.{◌≡◌, ℕ, zero, suc, ◌+◌, ◌-◌, ◌^�
 use Rattle.sets.specs.Sets.{Has, Inside, Apart}
 use Rattle.problem.specs.Firm.{Task}
 use Rattle.problem.specs.Runs.{Goal, Meets}
-use Rattle.regression.specs.Regions.{region_goal}
 use Rattle.regression.specs.Reaching.{Reaches, MakesDue, Surely}
 use Rattle.regression.specs.Nodes.{Pair, Lies, undecided, Named, Splits, Settles, allowing}
-use Rattle.regression.specs.declared.region.Region.{Region}
 use Rattle.regression.specs.declared.node.Node.{Node}
 use Rattle.regression.specs.declared.node.Next.{Next}
 use Rattle.regression.specs.declared.node.Next.TheVariants.{Drop, Due, Split}
@@ -63,7 +61,7 @@ Dismissed D s = (g : Goal) × D g × Meets g s
 -- what becomes of one node
 abbrev pub Treated : Task → Goal → (Goal → Type 0) → Node → Next → Type 0
 Treated t q D n Drop = (s step : ℕ) → Pair t q s step → Lies n s step → Dismissed D s
-Treated t q D n (Due p) = Settles t q n p × (D (region_goal n.region) → ⊥)
+Treated t q D n (Due p) = Settles t q n p × (D n.region → ⊥)
 Treated t q D n (Split a b) = Splits t q n a b
 
 -- from the nodes before to those after: each pair still lies in one of them, or its state is met by what is answered, or is dismissed;
@@ -77,16 +75,16 @@ pub record Carried (t : Task) (q : Goal) (D : Goal → Type 0) (met : ℕ → Ty
 -- the step makes p due: it leads into the goal from every state of p; it lay, from the least state of p, in a node before and lies in none
 -- after, so no later answer has this step and this need; nothing can be spared in avoid; p with more to avoid was not dismissed; and of the
 -- empty step p is the goal itself
-pub record Brings (t : Task) (q : Goal) (D : Goal → Type 0) (before after : List Node) (step : ℕ) (p : Region) : Type 0 where
-  pub carried : Carried t q D (Meets (region_goal p)) before after
+pub record Brings (t : Task) (q : Goal) (D : Goal → Type 0) (before after : List Node) (step : ℕ) (p : Goal) : Type 0 where
+  pub carried : Carried t q D (Meets p) before after
   pub apart : Apart p.need p.avoid
-  pub leads : (s : ℕ) → Meets (region_goal p) s → Reaches t q s step
+  pub leads : (s : ℕ) → Meets p s → Reaches t q s step
   pub taken : LiesIn before p.need step
   pub gone : Orderly t q before → LiesIn after p.need step → ⊥
   pub less : weights after < weights before
   pub least : (x : ℕ) → Has p.avoid x → Surely t q step (allowing p x) → ⊥
   pub wider : (avoid : ℕ) × Inside p.avoid avoid × (D (record { need = p.need; avoid = avoid }) → ⊥)
-  pub due : Orderly t q before → MakesDue t q step (region_goal p)
+  pub due : Orderly t q before → MakesDue t q step p
   pub own : Orderly t q before → step ≡ 0 → (p.need ≡ q.need) × (p.avoid ≡ q.avoid)
 
 -- what is found: a region made due, with so many nodes left; or that none is left; or that there is no room for one more node, which

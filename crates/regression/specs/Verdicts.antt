@@ -20,6 +20,11 @@ both_of (Ask x) Yes = Ask x
 both_of (Ask x) No = No
 both_of (Ask x) (Ask y) = Ask x
 
+-- the verdict on all things of which In holds, by the verdicts P on each: yes if it is yes of each, and otherwise that on one of them
+pub record OfAll {X : Type 0} (In : X → Type 0) (P : X → Verdict → Type 0) (v : Verdict) : Type 0 where
+  pub each : v ≡ Yes → (x : X) → In x → P x v
+  pub one : (v ≡ Yes → ⊥) → (x : X) × In x × P x v
+
 -- a member of ask is asked for; No where there is none
 abbrev pub Asks : ℕ → Verdict → Type 0
 Asks ask Yes = ⊥

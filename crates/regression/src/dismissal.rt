@@ -1,8 +1,7 @@
 ghost use Rattle.std.specs.Prelude.{Decides};
 ghost use Rattle.problem.specs.Runs.{Goal};
-ghost use Rattle.regression.specs.Regions.{region_goal};
 
-use crate::region::Region;
+use problem::Goal;
 
 // What allows nodes to be dropped unseen: nobody asks for a step from the states of their regions, be it that no run gets there
 // or that other states are looked for.
@@ -10,6 +9,6 @@ pub trait Dismissal {
     // the goals whose states nobody asks for
     ghost dismissed: { Self → Goal → Type 0 };
 
-    fn dismisses(&self, region: Region) -> bool
-        ensures { Decides result (dismissed self.now (region_goal region)) };
+    fn dismisses(&self, region: Goal) -> bool
+        ensures { Decides result (dismissed self.now region) };
 }

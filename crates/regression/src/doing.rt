@@ -1,8 +1,25 @@
+ghost use Rattle.std.specs.Prelude.{◌≡◌, bit_or};
+
+use std::ops::BitOr;
+
 // What is in a set in every state between two masks, and what is in it in any of them.
-#[derive(Clone, Copy)]
+#[derive(Clone, Copy, Default)]
 pub(crate) struct Bounds {
     pub(crate) sure: u64,
     pub(crate) may: u64,
+}
+
+impl BitOr for Bounds {
+    type Output = Bounds;
+
+    ghost bitor_gives = { λ a b r. (r.sure ≡ bit_or a.sure b.sure) × (r.may ≡ bit_or a.may b.may) };
+
+    fn bitor(self, other: Bounds) -> Bounds {
+        Bounds {
+            sure: self.sure | other.sure,
+            may: self.may | other.may,
+        }
+    }
 }
 
 // What an action gives and deletes, and what it must find.
@@ -12,15 +29,6 @@ pub(crate) struct Doing {
     pub(crate) give: Bounds,
     pub(crate) cut: Bounds,
     pub(crate) read: Bounds,
-}
-
-// What each action of a step does in the states between `lo` and `hi`: a row for each, found once, since every pair of actions
-// is looked at.
-#[derive(Clone, Copy)]
-pub(crate) struct Doings {
-    pub(crate) lo: u64,
-    pub(crate) hi: u64,
-    pub(crate) rows: [Doing; 4],
 }
 
 // What the actions of a step give and delete together.

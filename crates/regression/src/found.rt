@@ -1,6 +1,7 @@
-use crate::region::Region;
+use problem::Goal;
 
-// A part of a stack of nodes: `count` of them from `start` on, the work on one goal.
+// A part of a stack of nodes: `count` of them from `start` on, the work on one goal. The stack is lent, since no planner crate
+// uses a heap.
 #[derive(Clone, Copy)]
 pub struct Part {
     pub start: usize,
@@ -11,10 +12,11 @@ pub struct Part {
 #[derive(Clone, Copy)]
 pub struct Due {
     pub step: u64,
-    pub region: Region,
+    pub region: Goal,
 }
 
-// What working on a part of the stack finds, and how many nodes are left of the part.
+// What working on a part of the stack finds, and how many nodes are left of the part. No Result: to be done is no answer, and
+// to lack room is no error, since the part stands as it is and work on it goes on later.
 #[derive(Clone, Copy)]
 pub enum Found {
     // this is made due

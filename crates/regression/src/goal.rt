@@ -1,111 +1,104 @@
-ghost use Rattle.std.specs.Prelude.{ℕ, ◌⊎◌};
+ghost use Rattle.std.specs.Prelude.{◌⊎◌};
 ghost use Rattle.sets.specs.Sets.{Has};
-ghost use Rattle.problem.specs.Actions.{cuts};
-ghost use Rattle.problem.specs.Problems.{task_of};
-ghost use Rattle.regression.specs.Regions.{region_goal};
-ghost use Rattle.regression.specs.Spans.{Union, sure_gives, may_give, Kept, Got, Ungiven, Cleared, Reached};
+ghost use Rattle.regression.specs.Spans.{Kept, Got, Ungiven, Cleared, Reached};
 ghost use Rattle.regression.specs.Matters.{GoalNames, Serving, Sways};
-ghost use Rattle.regression.specs.Doings.{Tells};
+ghost use Rattle.regression.specs.Told.{acts};
 ghost use Rattle.regression.specs.Verdicts.{Judged};
 
-use crate::doing::{Bounds, Doings};
+use crate::doings::Doings;
 use crate::joining::{ask_for, both};
-use crate::region::Region;
-use crate::totals::{open_of, totals};
+use crate::sums::Sums;
 use crate::verdict::Verdict;
-use problem::Problem;
+use problem::Goal;
 use sets::without;
 
-// Whether no action of the step deletes an atom of `need`.
-fn kept(problem: &Problem, step: u64, cut: Bounds, lo: u64, hi: u64, need: u64) -> Verdict
-    requires sure { Union (cuts (task_of problem.now).at lo) step cut.sure }
-    requires may { Union (cuts (task_of problem.now).at hi) step cut.may }
-    ensures { Judged lo hi (Kept (task_of problem.now).at step need)
-        (λ x. Has need x ⊎ Sways (task_of problem.now).at step need x) result }
-{
-    let may = need & cut.may;
-    if may == 0 {
-        return Verdict::Yes;
+// The four tests are alike in form alone, and `ready`, `rest` and `unhurt` begin as they do: one function would take the set, the
+// bounds and what to open, and say less.
+impl Sums<'_> {
+    // Whether no action of the step deletes an atom of `need`.
+    fn kept(&self, need: u64) -> Verdict
+        ensures { Judged self.now.doings.now.lo self.now.doings.now.hi (Kept (acts self.now.doings.now) self.now.doings.now.step need)
+            (λ x. Has need x ⊎ Sways (acts self.now.doings.now) self.now.doings.now.step need x) result }
+    {
+        let Sums { doings, all } = *self;
+        let may = need & all.cut.may;
+        if may == 0 {
+            return Verdict::Yes;
+        }
+        if need & all.cut.sure != 0 {
+            return Verdict::No;
+        }
+        ask_for(doings.open_of(doings.step, 0, may))
     }
-    if need & cut.sure != 0 {
-        return Verdict::No;
+
+    // Whether each atom of `need` is there, or an action of the step gives it.
+    fn got(&self, need: u64) -> Verdict
+        ensures { Judged self.now.doings.now.lo self.now.doings.now.hi (Got (acts self.now.doings.now) self.now.doings.now.step need)
+            (λ x. Has need x ⊎ Sways (acts self.now.doings.now) self.now.doings.now.step need x) result }
+    {
+        let Sums { doings, all } = *self;
+        let may = without(without(need, doings.lo), all.give.sure);
+        if may == 0 {
+            return Verdict::Yes;
+        }
+        if without(without(need, doings.hi), all.give.may) != 0 {
+            return Verdict::No;
+        }
+        if may & doings.hi != 0 {
+            return ask_for(may & doings.hi);
+        }
+        ask_for(doings.open_of(doings.step, may, may))
     }
-    ask_for(open_of(problem, step, lo, hi, 0, may))
+
+    // Whether no action of the step gives an atom of `avoid`.
+    fn ungiven(&self, avoid: u64) -> Verdict
+        ensures { Judged self.now.doings.now.lo self.now.doings.now.hi (Ungiven (acts self.now.doings.now) self.now.doings.now.step avoid)
+            (λ x. Has avoid x ⊎ Sways (acts self.now.doings.now) self.now.doings.now.step avoid x) result }
+    {
+        let Sums { doings, all } = *self;
+        let may = avoid & all.give.may;
+        if may == 0 {
+            return Verdict::Yes;
+        }
+        if avoid & all.give.sure != 0 {
+            return Verdict::No;
+        }
+        ask_for(doings.open_of(doings.step, may, may))
+    }
+
+    // Whether an action of the step deletes each atom of `avoid` that is there.
+    fn cleared(&self, avoid: u64) -> Verdict
+        ensures { Judged self.now.doings.now.lo self.now.doings.now.hi (Cleared (acts self.now.doings.now) self.now.doings.now.step avoid)
+            (λ x. Has avoid x ⊎ Sways (acts self.now.doings.now) self.now.doings.now.step avoid x) result }
+    {
+        let Sums { doings, all } = *self;
+        let may = without(avoid & doings.hi, all.cut.sure);
+        if may == 0 {
+            return Verdict::Yes;
+        }
+        if without(avoid & doings.lo, all.cut.may) != 0 {
+            return Verdict::No;
+        }
+        let open = without(may, doings.lo);
+        if open != 0 {
+            return ask_for(open);
+        }
+        ask_for(doings.open_of(doings.step, 0, may))
+    }
 }
 
-// Whether each atom of `need` is there, or an action of the step gives it.
-fn got(problem: &Problem, step: u64, give: Bounds, lo: u64, hi: u64, need: u64) -> Verdict
-    requires sure { Union (sure_gives (task_of problem.now).at lo hi) step give.sure }
-    requires may { Union (may_give (task_of problem.now).at lo hi) step give.may }
-    ensures { Judged lo hi (Got (task_of problem.now).at step need)
-        (λ x. Has need x ⊎ Sways (task_of problem.now).at step need x) result }
-{
-    let may = without(without(need, lo), give.sure);
-    if may == 0 {
-        return Verdict::Yes;
+impl Doings<'_> {
+    // Whether the step, if it is firm, ends in a state of `aim`.
+    pub(crate) fn reaches(&self, aim: Goal) -> Verdict
+        ensures { Judged self.now.lo self.now.hi (Reached (acts self.now) self.now.step aim)
+            (λ x. GoalNames aim x ⊎ Serving (acts self.now) self.now.step aim x) result }
+    {
+        let sums = Sums {
+            doings: self,
+            all: self.totals(self.step),
+        };
+        let needed = both(sums.kept(aim.need), sums.got(aim.need));
+        let avoided = both(sums.ungiven(aim.avoid), sums.cleared(aim.avoid));
+        both(needed, avoided)
     }
-    if without(without(need, hi), give.may) != 0 {
-        return Verdict::No;
-    }
-    if may & hi != 0 {
-        return ask_for(may & hi);
-    }
-    ask_for(open_of(problem, step, lo, hi, may, may))
-}
-
-// Whether no action of the step gives an atom of `avoid`.
-fn ungiven(problem: &Problem, step: u64, give: Bounds, lo: u64, hi: u64, avoid: u64) -> Verdict
-    requires sure { Union (sure_gives (task_of problem.now).at lo hi) step give.sure }
-    requires may { Union (may_give (task_of problem.now).at lo hi) step give.may }
-    ensures { Judged lo hi (Ungiven (task_of problem.now).at step avoid)
-        (λ x. Has avoid x ⊎ Sways (task_of problem.now).at step avoid x) result }
-{
-    let may = avoid & give.may;
-    if may == 0 {
-        return Verdict::Yes;
-    }
-    if avoid & give.sure != 0 {
-        return Verdict::No;
-    }
-    ask_for(open_of(problem, step, lo, hi, may, may))
-}
-
-// Whether an action of the step deletes each atom of `avoid` that is there.
-fn cleared(problem: &Problem, step: u64, cut: Bounds, lo: u64, hi: u64, avoid: u64) -> Verdict
-    requires sure { Union (cuts (task_of problem.now).at lo) step cut.sure }
-    requires may { Union (cuts (task_of problem.now).at hi) step cut.may }
-    ensures { Judged lo hi (Cleared (task_of problem.now).at step avoid)
-        (λ x. Has avoid x ⊎ Sways (task_of problem.now).at step avoid x) result }
-{
-    let may = without(avoid & hi, cut.sure);
-    if may == 0 {
-        return Verdict::Yes;
-    }
-    if without(avoid & lo, cut.may) != 0 {
-        return Verdict::No;
-    }
-    let open = without(may, lo);
-    if open != 0 {
-        return ask_for(open);
-    }
-    ask_for(open_of(problem, step, lo, hi, 0, may))
-}
-
-// Whether a step that is firm ends in a state of `aim`.
-pub(crate) fn reaches(problem: &Problem, doings: &Doings, step: u64, aim: Region) -> Verdict
-    requires { Tells (task_of problem.now).at step doings.now }
-    ensures { Judged doings.now.lo doings.now.hi (Reached (task_of problem.now).at step (region_goal aim))
-        (λ x. GoalNames (region_goal aim) x ⊎ Serving (task_of problem.now).at step (region_goal aim) x) result }
-{
-    let Doings { lo, hi, .. } = *doings;
-    let all = totals(doings, step);
-    let needed = both(
-        kept(problem, step, all.cut, lo, hi, aim.need),
-        got(problem, step, all.give, lo, hi, aim.need),
-    );
-    let avoided = both(
-        ungiven(problem, step, all.give, lo, hi, aim.avoid),
-        cleared(problem, step, all.cut, lo, hi, aim.avoid),
-    );
-    both(needed, avoided)
 }

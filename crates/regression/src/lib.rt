@@ -3,6 +3,7 @@
 mod calm;
 mod dismissal;
 mod doing;
+mod doings;
 mod effects;
 mod expand;
 mod found;
@@ -14,11 +15,12 @@ mod judge;
 mod next;
 mod node;
 mod opening;
-mod region;
 mod rest;
 mod shrink;
 mod summing;
+mod sums;
 mod totals;
+mod trial;
 mod verdict;
 
 pub use dismissal::Dismissal;
@@ -26,4 +28,3 @@ pub use found::{Due, Found, Part};
 pub use next::{ROOM, next_due};
 pub use node::Node;
 pub use opening::begin_work;
-pub use region::Region;

@@ -1,21 +1,19 @@
 ghost use Rattle.std.specs.Prelude.{◌≡◌, ℕ, take};
 ghost use Rattle.problem.specs.Problems.{task_of};
-ghost use Rattle.regression.specs.Regions.{region_goal};
 ghost use Rattle.regression.specs.Stacks.{part_of, Treated, Finds};
 
 use crate::dismissal::Dismissal;
 use crate::expand::expand;
 use crate::found::{Due, Found, Part};
 use crate::node::{Next, Node};
-use crate::region::Region;
-use problem::Problem;
+use problem::{Goal, Problem};
 
 // The nodes for which a part of the stack needs room: each split adds one, and leaves less to be decided.
 pub const ROOM: usize = 129;
 
 // What becomes of a node that may be dismissed.
-fn treat<D: Dismissal>(problem: &Problem, aim: Region, dismissal: &D, node: Node) -> Next
-    ensures { Treated (task_of problem.now) (region_goal aim) (D.dismissed dismissal.now) node result }
+fn treat<D: Dismissal>(problem: &Problem, aim: Goal, dismissal: &D, node: Node) -> Next
+    ensures { Treated (task_of problem.now) aim (D.dismissed dismissal.now) node result }
 {
     if dismissal.dismisses(node.region) {
         return Next::Drop;
@@ -26,12 +24,12 @@ fn treat<D: Dismissal>(problem: &Problem, aim: Region, dismissal: &D, node: Node
 // Works through the nodes of a part of the stack, the last first, until one makes a region due or none is left.
 pub fn next_due<D: Dismissal>(
     problem: &Problem,
-    aim: Region,
+    aim: Goal,
     dismissal: &D,
     nodes: &mut [Node],
     part: Part,
 ) -> Found
-    ensures finds { Finds (task_of problem.now) (region_goal aim) (D.dismissed dismissal.now)
+    ensures finds { Finds (task_of problem.now) aim (D.dismissed dismissal.now)
         (part_of nodes.old part.start part.count) nodes.new part.start result }
     ensures below { take part.start nodes.new ≡ take part.start nodes.old }
 {
@@ -40,6 +38,8 @@ pub fn next_due<D: Dismissal>(
         return Found::NoRoom(count);
     }
     let mut left = count;
+
+    // No iterator: the stack grows and shrinks while it is worked through.
     while left > 0 {
         let top = start + (left - 1);
         match treat(problem, aim, dismissal, nodes[top]) {

@@ -1,26 +1,15 @@
-ghost use Rattle.std.specs.Prelude.{◌≡◌, ℕ, ◌≤◌, count_ones};
+ghost use Rattle.std.specs.Prelude.{◌≤◌, count_ones};
 ghost use Rattle.sets.specs.Sets.{Has};
-ghost use Rattle.problem.specs.Actions.{Action};
+ghost use Rattle.problem.specs.Firm.{Step};
 ghost use Rattle.problem.specs.Problems.{task_of};
 ghost use Rattle.regression.specs.Doings.{Does, Tells};
+ghost use Rattle.regression.specs.Told.{acts, TellsOf};
 
-use crate::doing::{Bounds, Doing, Doings};
+use crate::doing::{Bounds, Doing};
+use crate::doings::Doings;
 use crate::effects::read_in;
-use problem::{Problem, change_in};
-use sets::without;
-
-// The row of no action.
-fn no_doing() -> Doing
-    ensures { result.action ≡ 64 }
-{
-    let nothing = Bounds { sure: 0, may: 0 };
-    Doing {
-        action: 64,
-        give: nothing,
-        cut: nothing,
-        read: nothing,
-    }
-}
+use problem::{Goal, Problem, change_in};
+use sets::{members_of, without};
 
 // What an action does in the states between `lo` and `hi`: what fires in `lo` fires in all of them, and what fires in any of
 // them fires in `hi`.
@@ -49,35 +38,43 @@ fn doing(problem: &Problem, action: u32, lo: u64, hi: u64) -> Doing
     }
 }
 
-// What each action of a step does in the states between `lo` and `hi`.
-pub(crate) fn doings_of(problem: &Problem, step: u64, lo: u64, hi: u64) -> Doings
+// A row for each action of a step.
+fn rows_of(problem: &Problem, step: u64, lo: u64, hi: u64) -> [Option<Doing>; 4]
     requires { count_ones step ≤ 4 }
-    ensures tells { Tells (task_of problem.now).at step result }
-    ensures from { result.lo ≡ lo }
-    ensures to { result.hi ≡ hi }
+    ensures { Tells (task_of problem.now).at step lo hi result }
 {
-    let mut rows = [no_doing(); 4];
-    let mut count = 0;
-    let mut left = step;
-    while left != 0 {
-        rows[count] = doing(problem, left.trailing_zeros(), lo, hi);
-        count += 1;
-        left &= left - 1;
+    let mut rows = [None; 4];
+    for (count, action) in members_of(step).enumerate() {
+        rows[count] = Some(doing(problem, action, lo, hi));
     }
-    Doings { lo, hi, rows }
+    rows
 }
 
-impl Doings {
+impl<'a> Doings<'a> {
+    // What each action of a step does in the states of a region.
+    pub(crate) fn new(problem: &'a Problem<'a>, step: u64, region: Goal) -> Doings<'a>
+        requires { Step (task_of problem.now) step }
+        ensures { TellsOf problem.now step region result }
+    {
+        let lo = region.need;
+        let hi = !region.avoid;
+        Doings {
+            problem,
+            step,
+            lo,
+            hi,
+            rows: rows_of(problem, step, lo, hi),
+        }
+    }
+
     // What the action `i` does.
     pub(crate) fn of(&self, i: u32) -> Doing
-        ensures { (at : ℕ → Action) (step : ℕ) → Tells at step self.now → Has step i
-            → Does at self.now.lo self.now.hi i result }
+        requires { Has self.now.step i }
+        ensures { Does (acts self.now) self.now.lo self.now.hi i result }
     {
-        for row in &self.rows {
-            if row.action == i {
-                return *row;
-            }
-        }
-        no_doing()
+        self.rows
+            .iter()
+            .find_map(|row| row.filter(|doing| doing.action == i))
+            .unwrap()
     }
 }

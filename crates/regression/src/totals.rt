@@ -1,71 +1,66 @@
 ghost use Rattle.std.specs.Prelude.{◌≡◌, ℕ};
-ghost use Rattle.problem.specs.Actions.{Action};
-ghost use Rattle.problem.specs.Problems.{task_of};
-ghost use Rattle.regression.specs.Spans.{Union, opens, may_help};
-ghost use Rattle.regression.specs.Doings.{Does, Tells, Totalled};
+ghost use Rattle.sets.specs.Sets.{Has, Inside};
+ghost use Rattle.regression.specs.Spans.{Union, UnionBy, opens, may_help};
+ghost use Rattle.regression.specs.Doings.{Totalled};
+ghost use Rattle.regression.specs.Told.{acts};
 
-use crate::doing::{Bounds, Doing, Doings, Totals};
-use crate::effects::open_in;
-use problem::Problem;
+use crate::doing::{Bounds, Totals};
+use crate::doings::Doings;
+use sets::members_of;
 
-// What the actions of a step give and delete together.
-pub(crate) fn totals(doings: &Doings, step: u64) -> Totals
-    ensures { (at : ℕ → Action) → Tells at step doings.now
-        → Totalled at doings.now.lo doings.now.hi step result }
+// The union of the sets that `part` has for the members of a set.
+fn union_of<F: Fn(u32) -> u64>(set: u64, part: F) -> u64
+    requires { (i : ℕ) → Has set i → F.pre part i }
+    ensures { UnionBy (F.post part) set result }
 {
-    let mut give = Bounds { sure: 0, may: 0 };
-    let mut cut = Bounds { sure: 0, may: 0 };
-    let mut left = step;
-    while left != 0 {
-        let one = doings.of(left.trailing_zeros());
-        give = Bounds {
-            sure: give.sure | one.give.sure,
-            may: give.may | one.give.may,
-        };
-        cut = Bounds {
-            sure: cut.sure | one.cut.sure,
-            may: cut.may | one.cut.may,
-        };
-        left &= left - 1;
+    let mut union = 0;
+    for i in members_of(set) {
+        union |= part(i);
     }
-    Totals { give, cut }
+    union
 }
 
-// What is open in the conditions of those effects of a step that add an atom of `add` or delete one of `delete`.
-pub(crate) fn open_of(problem: &Problem, step: u64, lo: u64, hi: u64, add: u64, delete: u64) -> u64
-    ensures { Union (opens (task_of problem.now).at lo hi add delete) step result }
-{
-    let mut ask = 0;
-    let mut left = step;
-    while left != 0 {
-        let effects = problem.effects_of(left.trailing_zeros() as usize);
-        ask |= open_in(effects, lo, hi, add, delete, 0);
-        left &= left - 1;
+impl Doings<'_> {
+    // What the actions of a part of the step give and delete together.
+    pub(crate) fn totals(&self, part: u64) -> Totals
+        requires { Inside part self.now.step }
+        ensures { Totalled (acts self.now) self.now.lo self.now.hi part result }
+    {
+        let mut give = Bounds::default();
+        let mut cut = Bounds::default();
+        for i in members_of(part) {
+            let one = self.of(i);
+            give = give | one.give;
+            cut = cut | one.cut;
+        }
+        Totals { give, cut }
     }
-    ask
-}
 
-// What an action may give to a condition of which it does not surely delete an atom.
-fn help_of(one: Doing, condition: u64) -> u64
-    ensures { (at : ℕ → Action) (lo hi i : ℕ) → Does at lo hi i one → result ≡ may_help at lo hi condition i }
-{
-    if one.cut.sure & condition == 0 {
-        one.give.may
-    } else {
-        0
+    // What is open in the conditions of those effects of such actions that add an atom of `add` or delete one of `delete`.
+    pub(crate) fn open_of(&self, part: u64, add: u64, delete: u64) -> u64
+        ensures { Union (opens (acts self.now) self.now.lo self.now.hi add delete) part result }
+    {
+        union_of(part, |i| self.open_in(i, add, delete, 0))
     }
-}
 
-// What the actions of a step may give to a condition.
-pub(crate) fn help(doings: &Doings, step: u64, condition: u64) -> u64
-    ensures { (at : ℕ → Action) → Tells at step doings.now
-        → Union (may_help at doings.now.lo doings.now.hi condition) step result }
-{
-    let mut may = 0;
-    let mut left = step;
-    while left != 0 {
-        may |= help_of(doings.of(left.trailing_zeros()), condition);
-        left &= left - 1;
+    // What the action `i` may give to a condition of which it does not surely delete an atom.
+    fn help_of(&self, i: u32, condition: u64) -> u64
+        requires { Has self.now.step i }
+        ensures { result ≡ may_help (acts self.now) self.now.lo self.now.hi condition i }
+    {
+        let one = self.of(i);
+        if one.cut.sure & condition == 0 {
+            one.give.may
+        } else {
+            0
+        }
     }
-    may
+
+    // What the actions of a part of the step may give to a condition.
+    pub(crate) fn help(&self, part: u64, condition: u64) -> u64
+        requires { Inside part self.now.step }
+        ensures { Union (may_help (acts self.now) self.now.lo self.now.hi condition) part result }
+    {
+        union_of(part, |i| self.help_of(i, condition))
+    }
 }

@@ -4,12 +4,12 @@ use claim::{Outcome, Report};
 use outlook::GraphOutlook;
 use plain::step_line;
 use planner::{Teller, plan};
-use problem::{ActionRow, EffectRow, Problem};
+use problem::{ActionRow, EffectRow, Problem, Question, Refusal};
 use sets::Filled;
 use std::io;
 use std::io::Read;
 use store::{Keeper, KeptRow};
-use text::{ProgramFault, Question, Taken, next_question, read_input};
+use text::{ProgramFault, next_question, read_input};
 
 // The most bytes of input.
 const MOST: usize = 32_768;
@@ -17,21 +17,33 @@ const MOST: usize = 32_768;
 // The rows of the keeper.
 const ROWS: usize = 2_000;
 
-// Fills `text` from standard input as far as it goes, and answers how many bytes there were.
-fn fill(rt: &HostRuntime, text: &mut [u8]) -> io::Result<usize> {
-    let mut stdin = rt.stdin();
-    let mut len = 0;
-    for _turn in 0..text.len() {
-        if len >= text.len() {
-            break;
-        }
-        let more = stdin.read(&mut text[len..])?;
-        if more == 0 {
-            break;
-        }
-        len += more;
+// Why no more is answered.
+#[derive(Drop)]
+enum Stop {
+    // the input has no problem, or no question where one should be
+    Fault(ProgramFault),
+    // what was read is no problem
+    Refused(Refusal),
+    // nothing can be printed
+    Unprinted(io::Error),
+}
+
+impl From<ProgramFault> for Stop {
+    fn from(fault: ProgramFault) -> Stop {
+        Stop::Fault(fault)
     }
-    Ok(len)
+}
+
+impl From<Refusal> for Stop {
+    fn from(refusal: Refusal) -> Stop {
+        Stop::Refused(refusal)
+    }
+}
+
+impl From<io::Error> for Stop {
+    fn from(error: io::Error) -> Stop {
+        Stop::Unprinted(error)
+    }
 }
 
 // Prints why the input could not be taken.
@@ -68,6 +80,11 @@ fn print_report(
     }
 }
 
+// Prints why a call declined.
+fn print_refusal(rt: &HostRuntime, refusal: Refusal) -> io::Result<()> {
+    println!(rt; "refused {}", refusal.number())
+}
+
 // Plans for a question, and prints the answer.
 fn answer(
     rt: &HostRuntime,
@@ -76,84 +93,43 @@ fn answer(
     question: Question,
 ) -> io::Result<()> {
     let mut list = [0; 32];
-    let Question {
-        need,
-        avoid,
-        limit,
-        budget,
-    } = question;
-    match plan(outlook, keeper, need, avoid, limit, budget, &mut list) {
+    match plan(outlook, keeper, question, &mut list) {
         Ok(report) => print_report(rt, question, report, &list),
-        Err(refusal) => println!(rt; "refused {}", refusal.number()),
+        Err(refusal) => print_refusal(rt, refusal),
     }
 }
 
 // Answers the questions from `at` on, up to the end of the text or the first fault.
-fn answer_all(rt: &HostRuntime, problem: &Problem, text: &[u8], at: usize) -> io::Result<()> {
+fn answer_all(rt: &HostRuntime, problem: &Problem, text: &[u8], at: usize) -> Result<(), Stop> {
     let outlook = GraphOutlook::new(*problem);
-    let mut rows = [KeptRow {
-        level: 0,
-        need: 0,
-        avoid: 0,
-    }; ROWS];
+    let mut rows = [KeptRow::default(); ROWS];
     let mut keeper = Keeper::over(&mut rows);
+    // a cursor: a question begins where the one before it ends
     let mut next = at;
-    for _question in 0..MOST {
-        match next_question(text, next) {
-            Ok(Some(asked)) => {
-                answer(rt, &outlook, &mut keeper, asked.question)?;
-                next = asked.next;
-            }
-            Ok(None) => break,
-            Err(fault) => return print_fault(rt, fault),
-        }
+    while let Some(asked) = next_question(text, next)? {
+        answer(rt, &outlook, &mut keeper, asked.question)?;
+        next = asked.next;
     }
     Ok(())
 }
 
-// Answers the questions about the problem of these rows.
-fn answer_rows<'a>(
-    rt: &HostRuntime,
-    text: &[u8],
-    taken: Taken,
-    actions: &'a [ActionRow],
-    effects: &'a [EffectRow],
-) -> io::Result<()> {
-    let mut problem = Problem::blank();
-    match problem.load(taken.atoms, taken.hands, taken.first, actions, effects) {
-        Ok(()) => answer_all(rt, &problem, text, taken.bytes),
-        Err(refusal) => println!(rt; "refused {}", refusal.number()),
-    }
-}
-
 // Reads the problem, and answers what is asked of it.
-fn run(rt: &HostRuntime, text: &[u8]) -> io::Result<()> {
-    let mut actions = [ActionRow {
-        precondition: 0,
-        first_effect: 0,
-    }; 64];
-    let mut effects = [EffectRow {
-        condition: 0,
-        add: 0,
-        delete: 0,
-    }; 512];
+fn run(rt: &HostRuntime, text: &[u8]) -> Result<(), Stop> {
+    let mut actions = [ActionRow::default(); 64];
+    let mut effects = [EffectRow::default(); 512];
     let mut action_list = Filled::over(&mut actions, 64);
     let mut effect_list = Filled::over(&mut effects, 512);
-    match read_input(text, &mut action_list, &mut effect_list) {
-        Ok(taken) => answer_rows(
-            rt,
-            text,
-            taken,
-            action_list.entries(),
-            effect_list.entries(),
-        ),
-        Err(fault) => print_fault(rt, fault),
-    }
+    let taken = read_input(text, &mut action_list, &mut effect_list)?;
+    let problem = taken.problem(action_list.entries(), effect_list.entries())?;
+    answer_all(rt, &problem, text, taken.bytes)
 }
 
 fn main(rt: HostRuntime) -> io::Result<()> {
-    let mut text = vec![in rt.alloc(); 0; MOST + 1]?;
-    let len = fill(&rt, &mut text)?;
-    let len = len.min(text.len());
-    run(&rt, &text[0..len])
+    let mut text = Vec::new(rt.alloc());
+    rt.stdin().take(MOST as u64 + 1).read_to_end(&mut text)?;
+    run(&rt, &text).or_else(|stop| match stop {
+        Stop::Fault(fault) => print_fault(&rt, fault),
+        Stop::Refused(refusal) => print_refusal(&rt, refusal),
+        Stop::Unprinted(error) => Err(error),
+    })
 }

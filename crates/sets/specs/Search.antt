@@ -1,5 +1,6 @@
 -- The first place, from a given one on, of which a fact holds.
-use Rattle.std.specs.Prelude.{ℕ, ◌<◌, ◌≤◌, List, length, Some, None, Option, slice_index_or}
+use Rattle.std.specs.Prelude.{◌≡◌, ℕ, ◌+◌, ◌<◌, ◌≤◌, List, length, Some, None, Option, MatchOption, slice_index_or}
+use Rattle.std.specs.Borrow.{Bor}
 
 module _ {E : Type 0} where
   -- P holds of the row at i
@@ -14,3 +15,7 @@ module _ {E : Type 0} where
   -- P holds of some row
   abbrev pub Somewhere : (E → Type 0) → List E → Type 0
   Somewhere P rows = (i : ℕ) × Holds P rows i
+
+  -- what a look at the rows of which P holds, from one place on, gives, and the place from which the next look goes on
+  abbrev pub NextFitting : (E → Type 0) → List E → ℕ → Option (Bor E) → ℕ → Type 0
+  NextFitting P rows from r to = MatchOption r (First P rows from None) (λ e. (i : ℕ) × First P rows from (Some i) × ((d : E) → e.now ≡ slice_index_or rows i d) × (to ≡ i + 1))

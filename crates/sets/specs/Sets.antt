@@ -1,5 +1,5 @@
 -- Sets of atoms as numbers: atom k is a member where bit k is 1.
-use Rattle.std.specs.Prelude.{◌≡◌, ℕ, ◌-◌, ◌/◌, ◌%◌, ◌^◌, ◌<◌, ◌≤◌, bit_and}
+use Rattle.std.specs.Prelude.{◌≡◌, ℕ, ◌-◌, ◌/◌, ◌%◌, ◌^◌, ◌<◌, ◌≤◌, Option, MatchOption, bit_and}
 
 -- the bit k of a number
 unfoldable pub bit : ℕ → ℕ → ℕ
@@ -34,3 +34,7 @@ pub record Lowest (s k : ℕ) : Type 0 where
 pub record Marks (s : ℕ) (P : ℕ → Type 0) : Type 0 where
   pub only : (k : ℕ) → Has s k → P k
   pub all : (k : ℕ) → P k → Has s k
+
+-- what a look at the members of s, the lowest first, gives, and the members left to be looked at
+abbrev pub Takes : ℕ → Option ℕ → ℕ → Type 0
+Takes s r t = MatchOption r ((s ≡ 0) × (t ≡ 0)) (λ k. Lowest s k × Marks t (λ j. Has s j × (Lowest s j → ⊥)))

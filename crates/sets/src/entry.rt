@@ -16,6 +16,7 @@ pub trait Entry {
 pub fn next_fit<E: Entry>(rows: &[E], from: usize, against: &E::Against) -> Option<usize>
     ensures { First (λ e. E.fitting e against.now) rows.now from result }
 {
+    // a loop: with `find` along the places, what its closure says of an entry of any kind could not be shown
     for i in from..rows.len() {
         if rows[i].fits(against) {
             return Some(i);

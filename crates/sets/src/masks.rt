@@ -45,11 +45,7 @@ pub fn single(member: u32) -> u64
 pub fn lowest(set: u64) -> Option<u32>
     ensures { MatchOption result (set ≡ 0) (λ k. Lowest set k) }
 {
-    if set == 0 {
-        None
-    } else {
-        Some(set.trailing_zeros())
-    }
+    (set != 0).then(|| set.trailing_zeros())
 }
 
 // A set without its lowest member.

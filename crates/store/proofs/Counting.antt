@@ -5,7 +5,7 @@ use lib.ListN.{length-map}
 use Rattle.sets.specs.Sets.{Apart}
 use Rattle.sets.proofs.Bits.{bit_zero, bit_suc}
 use Rattle.sets.proofs.Members.{within_below}
-use Rattle.store.specs.Lists.{Among, Different}
+use Rattle.sets.specs.Listed.{Among, Different}
 use Rattle.store.specs.Positions.{Target, Proper, NamesBelow}
 use Rattle.store.specs.Histories.{PositionsOver, PositionsAtMost}
 

@@ -1,7 +1,7 @@
 -- What a store was told since its first hour or its last clear, and how much it can have kept.
 use Rattle.std.specs.Prelude.{◌≡◌, ℕ, ◌*◌, ◌^◌, ◌≤◌, List, [], ◌∷◌, length, Ok, Err, Result}
 use Rattle.problem.specs.declared.refusal.Refusal.{Refusal}
-use Rattle.store.specs.Lists.{Among, Different}
+use Rattle.sets.specs.Listed.{Among, Different}
 use Rattle.store.specs.Positions.{Target, Covers, Proper, NamesBelow}
 use Rattle.store.specs.Stores.{Meaning, Covered, Blank, Telling}
 use Rattle.store.specs.declared.answer.Answer.{Answer}

@@ -1,4 +1,3 @@
-pub mod Lists
 pub mod Positions
 pub mod Declines
 pub mod Stores

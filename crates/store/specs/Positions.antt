@@ -40,11 +40,11 @@ pub record NamesBelow (m : ℕ) (q : Target) : Type 0 where
 
 -- what a value of the type stands for, and what a row of a list does
 abbrev pub target_of : Position → Target
-target_of p = at p.level (goal_of p.need p.avoid)
+target_of p = at p.level p.goal
 
 abbrev pub row_target : KeptRow → Target
-row_target row = at row.level (goal_of row.need row.avoid)
+row_target row = at row.level row.goal
 
 -- the row of a position
 abbrev pub row_of : Position → KeptRow
-row_of p = record { level = p.level; need = p.need; avoid = p.avoid }
+row_of p = record { level = p.level; goal = p.goal }

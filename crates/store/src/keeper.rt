@@ -1,5 +1,5 @@
 ghost use Rattle.std.specs.Prelude.{◌+◌, ◌≤◌};
-ghost use Rattle.sets.specs.Lists.{count_of, room_of};
+ghost use Rattle.sets.specs.Lists.{count_of};
 
 use crate::row::KeptRow;
 use sets::Filled;
@@ -14,6 +14,5 @@ pub struct Keeper<'a, T> {
     list: Filled<'a, KeptRow>,
     passed: u32,
     teller: PhantomData<T>,
-    ghost held: { count_of list ≤ room_of list },
     ghost few: { count_of list + passed ≤ 16000000 },
 }

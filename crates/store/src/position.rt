@@ -1,6 +1,8 @@
 ghost use Rattle.std.specs.Prelude.{◌≤◌};
 ghost use Rattle.sets.specs.Sets.{Apart};
 
+use problem::Goal;
+
 mod making;
 
 // A goal at a level: a state is asked to hold all of `need` and nothing of `avoid`. A value of this type always has a level
@@ -8,9 +10,8 @@ mod making;
 #[derive(Clone, Copy)]
 pub struct Position {
     pub level: u8,
-    pub need: u64,
-    pub avoid: u64,
+    pub goal: Goal,
     ghost low: { 1 ≤ level },
     ghost high: { level ≤ 32 },
-    ghost apart: { Apart need avoid },
+    ghost apart: { Apart goal.need goal.avoid },
 }

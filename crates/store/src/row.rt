@@ -2,25 +2,23 @@ ghost use Rattle.std.specs.Prelude.{◌≡◌};
 ghost use Rattle.store.specs.Positions.{Covers, target_of, row_target, row_of};
 
 use crate::position::Position;
+use problem::Goal;
 use sets::{Entry, inside};
 
 // A position as it lies in a lent list: plain, with no invariant of its own.
-#[derive(Clone, Copy)]
+#[derive(Clone, Copy, Default)]
 pub struct KeptRow {
     pub level: u8,
-    pub need: u64,
-    pub avoid: u64,
+    pub goal: Goal,
 }
 
-impl KeptRow {
-    // The row of a position.
-    pub(crate) fn of(position: &Position) -> KeptRow
-        ensures { result ≡ row_of position.now }
-    {
+impl From<Position> for KeptRow {
+    ghost from_gives = { λ p r. r ≡ row_of p };
+
+    fn from(position: Position) -> KeptRow {
         KeptRow {
             level: position.level,
-            need: position.need,
-            avoid: position.avoid,
+            goal: position.goal,
         }
     }
 }
@@ -33,7 +31,7 @@ impl Entry for KeptRow {
 
     fn fits(&self, against: &Position) -> bool {
         self.level >= against.level
-            && inside(self.need, against.need)
-            && inside(self.avoid, against.avoid)
+            && inside(self.goal.need, against.goal.need)
+            && inside(self.goal.avoid, against.goal.avoid)
     }
 }

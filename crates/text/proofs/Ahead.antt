@@ -13,7 +13,7 @@ use Rattle.sets.specs.Lists.{count_of, room_of, taken}
 use Rattle.sets.specs.declared.filled.Filled.{Filled}
 use Rattle.text.specs.Filling.{Refilled}
 use Rattle.text.proofs.Pushing.{Kept, taken_push, taken_long, refilled}
-use Rattle.text.proofs.Items.{one_item, kind_high}
+use Rattle.text.proofs.Items.{one_item, kind_between}
 use Rattle.text.proofs.Drafts.{SoundAt, row_for, more_sound, latest_is, open_effect}
 
 module _ (text : List ℕ) where
@@ -47,7 +47,7 @@ module _ (text : List ℕ) where
       go (i, s, inl e) = e.1
       go (i, s, inr e) =
           let low = rowed (item_kind i) e.1.place in
-          let high = kind_high i in
+          let high = kind_between i in
           absurd (elim (dec_le (item_kind i) 4) [ yes l ↦ h i s low l | no l ↦ e.0 (omega arith) ])
 
 -- so many effects at most

@@ -1,5 +1,7 @@
 -- What the record layer answers, as a reading sees it.
-use Rattle.std.proofs.Common.{◌≡◌, ℕ, ◌<◌, List, length, get_or, Err, sym, subst, inl, inr, arith}
+use Rattle.std.proofs.Common.{◌≡◌, ℕ, ◌+◌, ◌<◌, List, length, get_or, Err, sym, refl, subst, inl, inr, arith}
+use denote.Enum.Declared.{tag_of}
+use Rattle.text.specs.contracts.record.Kind.{the_type}
 use Rattle.text.specs.Records.{Known, code_of, KindAt, RecordAt}
 use Rattle.text.specs.Readings.{InPlace, Draft, Reads, faulty, strange, torn}
 use Rattle.text.specs.declared.fault.RecordFault.{RecordFault}
@@ -15,6 +17,15 @@ code_known kinds.Action = (omega arith, omega arith)
 code_known kinds.Effect = (omega arith, omega arith)
 code_known kinds.End = (omega arith, omega arith)
 code_known kinds.Question = (omega arith, omega arith)
+
+-- the byte that `as u8` makes of a kind
+pub tag_code : (k : Kind) → tag_of the_type k + 1 ≡ code_of k
+tag_code kinds.Size = refl
+tag_code kinds.First = refl
+tag_code kinds.Action = refl
+tag_code kinds.Effect = refl
+tag_code kinds.End = refl
+tag_code kinds.Question = refl
 
 module _ (text : List ℕ) (at : ℕ) (d : Draft) where
   fault_at : (o : ℕ) (f : ℕ → RecordFault) → o ≡ at → Reads text at d (faulty (InRecord (f at))) → Reads text at d (faulty (InRecord (f o)))

@@ -29,19 +29,12 @@ body_long (effect_is e) =
     ∙ omega (arith, length-append (bytes_of 8 e.add) (bytes_of 8 e.delete), length_bytes_of 8 e.condition, length_bytes_of 8 e.add, length_bytes_of 8 e.delete)
 body_long end_is = refl
 
-pub kind_low : (i : Item) → 1 ≤ item_kind i
-kind_low (size_is m h) = omega arith
-kind_low (first_is s) = omega arith
-kind_low (action_is p) = omega arith
-kind_low (effect_is e) = omega arith
-kind_low end_is = omega arith
-
-pub kind_high : (i : Item) → item_kind i ≤ 5
-kind_high (size_is m h) = omega arith
-kind_high (first_is s) = omega arith
-kind_high (action_is p) = omega arith
-kind_high (effect_is e) = omega arith
-kind_high end_is = omega arith
+pub kind_between : (i : Item) → (1 ≤ item_kind i) × (item_kind i ≤ 5)
+kind_between (size_is m h) = (omega arith, omega arith)
+kind_between (first_is s) = (omega arith, omega arith)
+kind_between (action_is p) = (omega arith, omega arith)
+kind_between (effect_is e) = (omega arith, omega arith)
+kind_between end_is = (omega arith, omega arith)
 
 -- a set among bytes
 set_within : (s : ℕ) (before after : List ℕ) (k : ℕ) → length before ≡ k → s < 2 ^ 64 → set_in (before ++ (bytes_of 8 s ++ after)) k ≡ s
@@ -92,19 +85,9 @@ made_size [] e u = absurd (omega arith)
 made_size (x ∷ []) e u = absurd (omega arith)
 made_size (x ∷ y ∷ z ∷ zs) e u = absurd (omega arith)
 
-made_first : (b : List ℕ) → length b ≡ 8 → AllBelowBase 256 b → Made 2 b
-made_first b e u = record {
-  kind = refl;
-  body = set_bytes b 0 (omega arith) u ∙ take_all 8 b (omega arith);
-  fitting = set_small b 0 (omega arith) u;
-}
-
-made_action : (b : List ℕ) → length b ≡ 8 → AllBelowBase 256 b → Made 3 b
-made_action b e u = record {
-  kind = refl;
-  body = set_bytes b 0 (omega arith) u ∙ take_all 8 b (omega arith);
-  fitting = set_small b 0 (omega arith) u;
-}
+-- a body that is one set, as that of a first state or of an action
+made_set : (b : List ℕ) → length b ≡ 8 → AllBelowBase 256 b → (bytes_of 8 (set_in b 0) ≡ b) × (set_in b 0 < 2 ^ 64)
+made_set b e u = (set_bytes b 0 (omega arith) u ∙ take_all 8 b (omega arith), set_small b 0 (omega arith) u)
 
 made_effect : (b : List ℕ) → length b ≡ 24 → AllBelowBase 256 b → Made 4 b
 made_effect b e u =
@@ -124,8 +107,8 @@ made_end b e = record { kind = refl; body = sym (nil_from_length b e); fitting =
 made : (k : ℕ) (b : List ℕ) → 1 ≤ k → k ≤ 5 → length b ≡ body_length k → AllBelowBase 256 b → Made k b
 made zero b l h e u = absurd (omega arith)
 made (suc zero) b l h e u = made_size b e u
-made (suc (suc zero)) b l h e u = made_first b e u
-made (suc (suc (suc zero))) b l h e u = made_action b e u
+made (suc (suc zero)) b l h e u = let s = made_set b e u in record { kind = refl; body = s.0; fitting = s.1 }
+made (suc (suc (suc zero))) b l h e u = let s = made_set b e u in record { kind = refl; body = s.0; fitting = s.1 }
 made (suc (suc (suc (suc zero)))) b l h e u = made_effect b e u
 made (suc (suc (suc (suc (suc zero))))) b l h e u = made_end b e
 made (suc (suc (suc (suc (suc (suc k)))))) b l h e u = absurd (omega arith)

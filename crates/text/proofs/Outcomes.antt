@@ -13,7 +13,7 @@ use Rattle.text.specs.declared.fault.ProblemFault.TheVariants.{Record as InRecor
 use Rattle.text.specs.declared.place.Place.{Place}
 use Rattle.text.specs.declared.place.Place.TheVariants.{Start, Sized, Started, Acted}
 use Rattle.text.proofs.Standing.{record_stand, first_stands, body_stands}
-use Rattle.text.proofs.Items.{item_in, item_back, item_there, body_long, kind_low, kind_high, item_inside}
+use Rattle.text.proofs.Items.{item_in, item_back, item_there, body_long, kind_between, item_inside}
 
 -- tests
 place? : (p : Place) (k : ℕ) → Dec (InPlace p k)
@@ -62,19 +62,12 @@ pick_no (yes p) x y n = absurd (n p)
 pick_no (no n) x y m = refl
 
 -- a kind in place is one of a problem's records
-pub place_low : (p : Place) (k : ℕ) → InPlace p k → 1 ≤ k
-place_low Start k i = omega arith
-place_low Sized k i = omega arith
-place_low Started k (inl i) = omega arith
-place_low Started k (inr i) = omega arith
-place_low Acted k i = omega arith
-
-pub place_high : (p : Place) (k : ℕ) → InPlace p k → k ≤ 5
-place_high Start k i = omega arith
-place_high Sized k i = omega arith
-place_high Started k (inl i) = omega arith
-place_high Started k (inr i) = omega arith
-place_high Acted k i = omega arith
+place_between : (p : Place) (k : ℕ) → InPlace p k → (1 ≤ k) × (k ≤ 5)
+place_between Start k i = (omega arith, omega arith)
+place_between Sized k i = (omega arith, omega arith)
+place_between Started k (inl i) = (omega arith, omega arith)
+place_between Started k (inr i) = (omega arith, omega arith)
+place_between Acted k i = (omega arith, omega arith)
 
 end_only : (i : Item) → item_kind i ≡ 5 → i ≡ end_is
 end_only (size_is m h) e = absurd (omega arith)
@@ -138,7 +131,8 @@ module _ (text : List ℕ) where
   turn_item at d i r p =
       let k : get_or text at 0 ≡ item_kind i = first_stands text at (item_kind i) (item_body i) r.bytes in
       let inside = item_inside text at i r in
-      turn_known at d (omega arith) (omega (arith, kind_low i), omega (arith, kind_high i))
+      let b = kind_between i in
+      turn_known at d (omega arith) (omega arith, omega arith)
       ∙ pick_yes _ _ _ (subst (InPlace d.place) (sym k) p)
       ∙ pick_yes _ _ _ inside
       ∙ ap (judged at d) (sym (item_at_read at i r))
@@ -215,7 +209,8 @@ module _ (text : List ℕ) where
       | yes h ↦
           let b = take (body_length (get_or text at 0)) (drop (at + 1) text) in
           let s = record_stand text at (get_or text at 0) (body_length (get_or text at 0)) b h refl refl in
-          let i = item_there text at (get_or text at 0) b u s.1 (place_low d.place _ p) (place_high d.place _ p) s.0 in
+          let l = place_between d.place _ p in
+          let i = item_there text at (get_or text at 0) b u s.1 l.0 l.1 s.0 in
           some_item at d (item_at at) i.0 (subst (InPlace d.place) (sym i.1) p) later
     ]
 

@@ -1,5 +1,5 @@
 -- A list that is filled entry by entry.
-use Rattle.std.proofs.Common.{◌≡◌, ◌+◌, ◌<◌, ◌≤◌, Bool, true, false, cond, ltb, List, [], ◌∷◌, ◌++◌, length, drop, set, sym, refl, ap, ◌∙◌, arith}
+use Rattle.std.proofs.Common.{◌≡◌, ℕ, ◌+◌, ◌<◌, ◌≤◌, Bool, true, false, cond, ltb, List, [], ◌∷◌, ◌++◌, length, drop, set, sym, ap, ◌∙◌, arith}
 use Rattle.std.proofs.lemmas.Bool.{ltb-true, lt-ltb}
 use Rattle.std.proofs.lemmas.List.{length-set, length-take-le, take-append-drop, drop-set-lt, drop-drop}
 use Rattle.sets.specs.Lists.{rows_of, count_of, room_of, taken}
@@ -14,8 +14,8 @@ module _ {X : Type 0} where
     pub room : room_of after ≡ room_of before
     pub lent : after.rows.ghost_name ≡ before.rows.ghost_name
 
-  pub kept_start : (f : Filled X) → count_of f ≡ 0 → Kept f f
-  kept_start f e = record { inside = omega arith; rest = refl; room = refl; lent = refl }
+  same_drop : (m n : ℕ) (xs ys zs : List X) → m ≡ n → xs ≡ ys → drop n ys ≡ drop n zs → drop m xs ≡ drop m zs
+  same_drop m n xs ys zs e f h = rw (e, f) h
 
   pub kept_push : (b f g : Filled X) (x : X) (r : Bool) → Kept b f → r ≡ ltb (count_of f) (room_of f) → count_of g ≡ cond r (count_of f + 1) (count_of f)
       → rows_of g ≡ cond r (set (rows_of f) (count_of f) x) (rows_of f) → room_of g ≡ room_of f → g.rows.ghost_name ≡ f.rows.ghost_name → Kept b g
@@ -24,14 +24,14 @@ module _ {X : Type 0} where
       let n : length (rows_of g) ≡ length (rows_of f) = ap length w ∙ length-set (rows_of f) (count_of f) x in
       record {
         inside = omega arith;
-        rest = rw (c, w) (drop-set-lt (count_of f + 1) (rows_of f) (count_of f) x (omega arith)
+        rest = same_drop _ _ _ _ (rows_of b) c w (drop-set-lt (count_of f + 1) (rows_of f) (count_of f) x (omega arith)
             ∙ sym (drop-drop 1 (count_of f) (rows_of f)) ∙ ap (drop 1) k.rest ∙ drop-drop 1 (count_of f) (rows_of b));
         room = o ∙ k.room;
         lent = l ∙ k.lent;
       }
   kept_push b f g x false k t c w o l = record {
     inside = omega (arith, k.inside, ap length w);
-    rest = rw (c, w) k.rest;
+    rest = same_drop _ _ _ _ (rows_of b) c w k.rest;
     room = o ∙ k.room;
     lent = l ∙ k.lent;
   }

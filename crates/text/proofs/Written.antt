@@ -1,12 +1,16 @@
 -- The bytes after one record more.
-use Rattle.std.proofs.Common.{◌≡◌, ℕ, ◌+◌, ◌<◌, ◌≤◌, List, ◌++◌, length, take, sym, refl, ap, ◌∙◌, subst, inl, inr, arith}
-use native.Mathlib.Decide.{dec_le}
+use Rattle.std.proofs.Common.{◌≡◌, ℕ, ◌+◌, ◌≤◌, List, ◌++◌, length, take, sym, refl, ap, ◌∙◌, subst, inl, inr, arith, rules, Ok, Err, Result, MatchResult}
+use Rattle.std.specs.Result.{IsOk}
 use Rattle.std.proofs.lemmas.List.{length_push}
 use Rattle.problem.specs.declared.refusal.Refusal.{Refusal}
-use Rattle.problem.specs.declared.refusal.Refusal.TheVariants.{TooShort}
 use Rattle.text.specs.Texts.{Item, size_is, first_is, action_is, effect_is, end_is, item_kind, item_text}
 use Rattle.text.specs.Readings.{InPlace, InRange, Naming, Draft, nothing, more, latest, draft_text, Allowed, none, then}
-use Rattle.text.specs.Writings.{Mark, marked, Wrote, Refuses, Refused, Holds, HoldsWhole}
+use Rattle.text.specs.Bytes.{put}
+use Rattle.text.specs.Records.{body_length}
+use Rattle.text.specs.Misfits.{Fit}
+use Rattle.text.specs.Writings.{Mark, marked, Wrote, Admits, Refuses, Refused, Holds, HoldsWhole}
+use Rattle.text.specs.declared.fits.Misfit.{Misfit}
+use Rattle.text.specs.declared.fits.Misfit.TheVariants.{Range, Atom}
 use Rattle.text.specs.declared.place.Place.{Place}
 use Rattle.text.specs.declared.place.Place.TheVariants.{Start, Acted}
 use Rattle.text.proofs.Numbers.{length_bytes_of}
@@ -14,16 +18,16 @@ use Rattle.text.proofs.Puts.{take_put, length_put}
 use Rattle.text.proofs.Items.{body_long}
 use Rattle.text.proofs.Drafts.{SoundAt, row_for, at_effect, drafted_sound, more_text, open_end, latest_action, latest_effect}
 
-lt_of_not_le : (a b : ℕ) → (a ≤ b → ⊥) → b < a
-lt_of_not_le a b n = elim (dec_le a b) [ yes l ↦ absurd (n l) | no l ↦ omega arith ]
-
 -- a record is as long as the numbers say
-pub marked_len : (k : Mark) (i : Item) → (marked k i).len ≡ k.len + length (item_text i)
+marked_len : (k : Mark) (i : Item) → (marked k i).len ≡ k.len + length (item_text i)
 marked_len k (size_is m h) = refl
 marked_len k (first_is s) = omega (arith, length_bytes_of 8 s)
 marked_len k (action_is p) = omega (arith, length_bytes_of 8 p)
 marked_len k (effect_is e) = omega (arith, body_long (effect_is e))
 marked_len k end_is = refl
+
+pub next_len : {k k' : Mark} {i : Item} {out out' : List ℕ} → Wrote k k' i out out' → k'.len ≡ k.len + length (item_text i)
+next_len {k} {i = i} w = ap (λ (m : Mark). m.len) w.next ∙ marked_len k i
 
 module _ (k : Mark) (d : Draft) (i : Item) (out : List ℕ) (h : Holds k d out) (p : InPlace k.place (item_kind i)) where
   more_place : (item_kind i ≡ 5 → ⊥) → (more d i).place ≡ (marked k i).place
@@ -116,13 +120,19 @@ holds_none k out e = subst (λ (x : Mark). Holds x nothing out) (sym e) (record 
   bytes = refl;
 })
 
--- bytes that are too few
-pub too_short : (k : Mark) (i : Item) (out : List ℕ) (n : ℕ) → length (item_text i) ≡ n → InPlace k.place (item_kind i) → InRange k.actions k.latest i → Naming k.atoms i
-    → (k.len + n ≤ length out → ⊥) → Refused k i out out TooShort
-too_short k i out n e p r m h = record {
-  same = refl;
-  why = inr (inr (inr (refl, p, r, m, lt_of_not_le (k.len + length (item_text i)) (length out) (λ l. h (subst (λ (x : ℕ). k.len + x ≤ length out) e l)))));
-}
+-- a record in its place: where it is admitted it is written, and so the text goes on, and else it is refused for what fails first
+module _ (k : Mark) (i : Item) (out : List ℕ) (n : ℕ) (e : n ≡ 1 + body_length (item_kind i)) (p : InPlace k.place (item_kind i)) where
+  pub writes : (k' : Mark) (out' : List ℕ) (fit : Result (Unit {0}) Misfit) → (item_kind i ≡ 5 → ⊥) → Fit k.actions k.latest k.atoms i fit → Admits fit (length out) k.len n (Ok tt)
+      → k' ≡ marked k i → out' ≡ put out k.len (item_text i) → Wrote k k' i out out' × ((d : Draft) → Holds k d out → Holds k' (more d i) out')
+  writes k' out' (Ok u) l f a x b =
+      let w : Wrote k k' i out out' = record { place = p; range = f.0; naming = f.1; room = omega (arith, a.1, body_long i); next = x; bytes = b } in
+      (w, λ d h. holds_more k k' d i out out' l h w)
+  writes k' out' (Err m) l f a x b = let y = a.0 in absurd (cc)
+
+  pub declined : (r : Refusal) (fit : Result (Unit {0}) Misfit) → Fit k.actions k.latest k.atoms i fit → Admits fit (length out) k.len n (Err r) → Refused k i out out r
+  declined r (Ok u) f a = record { same = refl; why = inr (inr (inr (a.0, p, f.0, f.1, omega (arith, a.1, body_long i)))) }
+  declined r (Err Range) f a = record { same = refl; why = inr (inl (a, p, f)) }
+  declined r (Err Atom) f a = record { same = refl; why = inr (inr (inl (a, p, f.0, f.1))) }
 
 -- a record that may come, fits and has room is not refused
 pub not_refused : (k : Mark) (i : Item) (size : ℕ) (e : Refusal) → InPlace k.place (item_kind i) → InRange k.actions k.latest i → Naming k.atoms i → k.len + length (item_text i) ≤ size → Refuses k i size e → ⊥
@@ -130,3 +140,8 @@ not_refused k i size e p r m o (inl x) = x.1 p
 not_refused k i size e p r m o (inr (inl x)) = x.2 r
 not_refused k i size e p r m o (inr (inr (inl x))) = x.3 m
 not_refused k i size e p r m o (inr (inr (inr x))) = omega (arith, x.4)
+
+-- a call whose refusals are ruled out
+pub goes_through : {S E : Type 0} (r : Result S E) (P : S → Type 0) (Q : E → Type 0) → MatchResult r P Q → ((e : E) → Q e → ⊥) → IsOk r
+goes_through (Ok x) P Q m n = search rules
+goes_through (Err e) P Q m n = absurd (n e m)

@@ -1,5 +1,5 @@
 -- What each fault is: its refusal, with its number, its offset and the layer that found it.
-use Rattle.std.specs.Prelude.{ℕ}
+use Rattle.std.specs.Prelude.{ℕ, List, codes}
 use Rattle.problem.specs.declared.refusal.Refusal.{Refusal}
 use Rattle.problem.specs.declared.refusal.Refusal.TheVariants.{CutText, UnknownKind, WrongPlace, OutOfRange, UnknownAtom, TooShort}
 use Rattle.text.specs.declared.fault.RecordFault.{RecordFault}
@@ -11,6 +11,12 @@ use Rattle.text.specs.declared.fault.ProgramFault.TheVariants.{Problem as InProb
 use Rattle.text.specs.declared.fault.Layer.{Layer}
 use Rattle.text.specs.declared.fault.Layer.TheVariants.{Record, Problem, Program}
 use Rattle.text.specs.declared.fault.Report.{Report}
+
+-- a layer's name, as its bytes
+abbrev pub layer_name : Layer → List ℕ
+layer_name Record = codes "record"
+layer_name Problem = codes "problem"
+layer_name Program = codes "program"
 
 abbrev pub told : Refusal → ℕ → Layer → Report
 told refusal offset layer = record { refusal = refusal; offset = offset; layer = layer }

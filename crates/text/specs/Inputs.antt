@@ -12,7 +12,7 @@ use Rattle.text.specs.declared.fault.ProblemFault.TheVariants.{Record as InRecor
 use Rattle.text.specs.declared.fault.ProgramFault.{ProgramFault}
 use Rattle.text.specs.declared.fault.ProgramFault.TheVariants.{Problem as InProblem, Long, After}
 use Rattle.text.specs.declared.checker.Taken.{Taken}
-use Rattle.text.specs.declared.questions.Question.{Question}
+use Rattle.problem.specs.declared.question.Question.{Question}
 use Rattle.text.specs.declared.questions.Asked.{Asked}
 
 -- the input is not too long, and its problem is read; or it is too long, and nothing is read
@@ -24,13 +24,13 @@ TakesInput text a a' e e' (Err (After o)) = ⊥
 
 -- the text of a question
 abbrev pub question_text : Question → List ℕ
-question_text q = 6 ∷ (bytes_of 8 q.need ++ (bytes_of 8 q.avoid ++ (q.limit ∷ bytes_of 4 q.budget)))
+question_text q = 6 ∷ (bytes_of 8 q.goal.need ++ (bytes_of 8 q.goal.avoid ++ (q.limit ∷ bytes_of 4 q.budget)))
 
 -- a question stands at an offset, and the next would stand behind it
 pub record Asking (text : List ℕ) (at : ℕ) (a : Asked) : Type 0 where
   pub bytes : Stand text at (question_text a.question)
   pub next : a.next ≡ at + 22
-  pub sets : (a.question.need < 2 ^ 64) × (a.question.avoid < 2 ^ 64)
+  pub sets : (a.question.goal.need < 2 ^ 64) × (a.question.goal.avoid < 2 ^ 64)
   pub numbers : (a.question.limit < 256) × (a.question.budget < 2 ^ 32)
 
 -- the faults of a question: no kind, or a body that is not whole

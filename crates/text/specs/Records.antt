@@ -41,6 +41,11 @@ body_of (Effect b) = b.now
 body_of End = []
 body_of (Question b) = b.now
 
+-- a byte's kind, or that it has none
+abbrev pub Decodes : ℕ → Result Kind (Unit {0}) → Type 0
+Decodes byte (Ok k) = code_of k ≡ byte
+Decodes byte (Err e) = Known byte → ⊥
+
 -- at an offset stands a byte that is no kind
 abbrev pub Strange : List ℕ → ℕ → Type 0
 Strange text at = (at < length text) × (Known (slice_index text at) → ⊥)

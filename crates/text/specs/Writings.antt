@@ -1,10 +1,12 @@
 -- What each call of the writer does: one record more in the bytes, or a refusal.
-use Rattle.std.specs.Prelude.{◌≡◌, ℕ, ◌+◌, ◌<◌, ◌≤◌, ◌⊎◌, List, length, take}
+use Rattle.std.specs.Prelude.{◌≡◌, ℕ, ◌+◌, ◌<◌, ◌≤◌, ◌⊎◌, List, length, take, Ok, Err, Result}
 use Rattle.problem.specs.declared.refusal.Refusal.{Refusal}
 use Rattle.problem.specs.declared.refusal.Refusal.TheVariants.{WrongPlace, OutOfRange, UnknownAtom, TooShort}
 use Rattle.text.specs.Bytes.{put}
 use Rattle.text.specs.Texts.{Item, size_is, first_is, action_is, effect_is, end_is, item_kind, item_text, Valid, problem_text}
 use Rattle.text.specs.Readings.{InPlace, InRange, Naming, place_after, Draft, draft_text, latest, Drafted}
+use Rattle.text.specs.Misfits.{refusal_of}
+use Rattle.text.specs.declared.fits.Misfit.{Misfit}
 use Rattle.text.specs.declared.place.Place.{Place}
 use Rattle.text.specs.declared.place.Place.TheVariants.{Start, Sized, Started, Acted}
 use Rattle.text.specs.declared.writer.BlankText.{BlankText}
@@ -58,6 +60,12 @@ Refuses k i size e =
     ⊎ (((e ≡ OutOfRange) × InPlace k.place (item_kind i) × (InRange k.actions k.latest i → ⊥))
     ⊎ (((e ≡ UnknownAtom) × InPlace k.place (item_kind i) × InRange k.actions k.latest i × (Naming k.atoms i → ⊥))
     ⊎ ((e ≡ TooShort) × InPlace k.place (item_kind i) × InRange k.actions k.latest i × Naming k.atoms i × (size < k.len + length (item_text i)))))
+
+-- values that fit and room for so many bytes, or the first of these that fails
+abbrev pub Admits : Result (Unit {0}) Misfit → ℕ → ℕ → ℕ → Result (Unit {0}) Refusal → Type 0
+Admits fit size len more (Ok u) = (fit ≡ Ok u) × (len + more ≤ size)
+Admits (Ok u) size len more (Err e) = (e ≡ TooShort) × (size < len + more)
+Admits (Err k) size len more (Err e) = e ≡ refusal_of k
 
 -- a refusal leaves all bytes alike
 pub record Refused (k : Mark) (i : Item) (out out' : List ℕ) (e : Refusal) : Type 0 where

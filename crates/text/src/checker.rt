@@ -43,28 +43,24 @@ impl Tally {
     fn action(self, at: usize, precondition: u64, atoms: u8) -> Result<Tally, ProblemFault>
         ensures { Counts self atoms at (action_is precondition) result }
     {
-        match action_fits(self.actions, precondition, atoms) {
-            Ok(()) => Ok(Tally {
-                place: Place::Acted,
-                actions: self.actions + 1,
-                latest: 0,
-            }),
-            Err(misfit) => Err(misfit.fault(at)),
-        }
+        action_fits(self.actions, precondition, atoms).map_err(|misfit| misfit.fault(at))?;
+        Ok(Tally {
+            place: Place::Acted,
+            actions: self.actions + 1,
+            latest: 0,
+        })
     }
 
     // One effect of the latest action more.
     fn effect(self, at: usize, effect: EffectRow, atoms: u8) -> Result<Tally, ProblemFault>
         ensures { Counts self atoms at (effect_is effect) result }
     {
-        match effect_fits(self.latest, effect, atoms) {
-            Ok(()) => Ok(Tally {
-                place: Place::Acted,
-                actions: self.actions,
-                latest: self.latest + 1,
-            }),
-            Err(misfit) => Err(misfit.fault(at)),
-        }
+        effect_fits(self.latest, effect, atoms).map_err(|misfit| misfit.fault(at))?;
+        Ok(Tally {
+            place: Place::Acted,
+            latest: self.latest + 1,
+            ..self
+        })
     }
 }
 
@@ -92,16 +88,14 @@ fn check_size(text: &[u8]) -> Result<Size, ProblemFault>
 {
     let found = record_in(text, 0, Place::Start)?;
     let Record::Size(body) = found.record else {
-        return Err(ProblemFault::Place(0));
+        unreachable!();
     };
     let size = Size {
         atoms: body[0],
         hands: body[1],
     };
-    match size_fits(size.atoms, size.hands) {
-        Ok(()) => Ok(size),
-        Err(misfit) => Err(misfit.fault(0)),
-    }
+    size_fits(size.atoms, size.hands).map_err(|misfit| misfit.fault(0))?;
+    Ok(size)
 }
 
 // The first state, after the size.
@@ -112,13 +106,11 @@ fn check_first(text: &[u8], size: Size) -> Result<u64, ProblemFault>
 {
     let found = record_in(text, 3, Place::Sized)?;
     let Record::First(body) = found.record else {
-        return Err(ProblemFault::Place(3));
+        unreachable!();
     };
     let first = set_at(body, 0);
-    match first_fits(first, size.atoms) {
-        Ok(()) => Ok(first),
-        Err(misfit) => Err(misfit.fault(3)),
-    }
+    first_fits(first, size.atoms).map_err(|misfit| misfit.fault(3))?;
+    Ok(first)
 }
 
 // The actions with their effects, up to the end record: where that ends.
@@ -133,12 +125,14 @@ fn check_rows(text: &[u8], size: Size, first: u64) -> Result<usize, ProblemFault
         actions: 0,
         latest: 0,
     };
+    // a cursor: where the next record begins, and whether it may stand there, is known once this one is read
     loop {
         let found = record_in(text, at, tally.place)?;
         tally = match found.record {
             Record::Action(body) => tally.action(at, set_at(body, 0), size.atoms)?,
             Record::Effect(body) => tally.effect(at, effect_in(body), size.atoms)?,
-            _ => return Ok(found.next),
+            Record::End => return Ok(found.next),
+            _ => unreachable!(),
         };
         at = found.next;
     }

@@ -1,9 +1,10 @@
-ghost use Rattle.std.specs.Prelude.{◌≡◌};
+ghost use Rattle.std.specs.Prelude.{◌≡◌, Some};
 ghost use Rattle.text.specs.declared.fault.ProblemFault.TheVariants.{Record as InRecord};
 ghost use Rattle.text.specs.declared.fault.ProgramFault.TheVariants.{Problem as InProblem};
-ghost use Rattle.text.specs.Faults.{record_report, problem_report, program_report};
+ghost use Rattle.text.specs.Faults.{layer_name, record_report, problem_report, program_report};
 
 use problem::Refusal;
+use std::fmt;
 
 // Why no record could be read, with the offset of its kind byte.
 #[derive(Clone, Copy)]
@@ -50,6 +51,18 @@ pub enum Layer {
     Program,
 }
 
+impl fmt::Display for Layer {
+    ghost output = { λ l. Some (layer_name l) };
+
+    fn fmt<W: fmt::Write>(&self, f: &mut fmt::Formatter<W>) -> fmt::Result {
+        f.write_str(match self {
+            Layer::Record => "record",
+            Layer::Problem => "problem",
+            Layer::Program => "program",
+        })
+    }
+}
+
 // What a user is told of a fault.
 #[derive(Clone, Copy)]
 pub struct Report {
@@ -82,21 +95,19 @@ impl From<RecordFault> for ProgramFault {
     }
 }
 
+// A named method for each fault and no `From`: with that, a `?` could trade a fault for its report unseen.
 impl RecordFault {
     pub fn report(self) -> Report
         ensures { result ≡ record_report self }
     {
-        match self {
-            RecordFault::Cut(offset) => Report {
-                refusal: Refusal::CutText,
-                offset,
-                layer: Layer::Record,
-            },
-            RecordFault::Unknown(offset) => Report {
-                refusal: Refusal::UnknownKind,
-                offset,
-                layer: Layer::Record,
-            },
+        let (refusal, offset) = match self {
+            RecordFault::Cut(offset) => (Refusal::CutText, offset),
+            RecordFault::Unknown(offset) => (Refusal::UnknownKind, offset),
+        };
+        Report {
+            refusal,
+            offset,
+            layer: Layer::Record,
         }
     }
 }
@@ -125,18 +136,15 @@ impl ProgramFault {
     pub fn report(self) -> Report
         ensures { result ≡ program_report self }
     {
-        match self {
-            ProgramFault::Problem(e) => e.report(),
-            ProgramFault::Long => Report {
-                refusal: Refusal::OutOfRange,
-                offset: 0,
-                layer: Layer::Program,
-            },
-            ProgramFault::After(offset) => Report {
-                refusal: Refusal::WrongPlace,
-                offset,
-                layer: Layer::Program,
-            },
+        let (refusal, offset) = match self {
+            ProgramFault::Problem(e) => return e.report(),
+            ProgramFault::Long => (Refusal::OutOfRange, 0),
+            ProgramFault::After(offset) => (Refusal::WrongPlace, offset),
+        };
+        Report {
+            refusal,
+            offset,
+            layer: Layer::Program,
         }
     }
 }

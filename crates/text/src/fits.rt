@@ -1,7 +1,7 @@
 ghost use Rattle.std.specs.Prelude.{◌≡◌, MatchResult};
+ghost use Rattle.sets.specs.Sets.{Within};
 ghost use Rattle.text.specs.Texts.{size_is, first_is, action_is, effect_is};
-ghost use Rattle.text.specs.Readings.{InRange, Naming};
-ghost use Rattle.text.specs.Misfits.{Misses, fault_of, refusal_of};
+ghost use Rattle.text.specs.Misfits.{Fit, fault_of, refusal_of};
 
 use crate::fault::ProblemFault;
 use problem::{EffectRow, Refusal};
@@ -26,23 +26,36 @@ impl Misfit {
             Misfit::Atom => ProblemFault::Atom(at),
         }
     }
+}
 
-    // The refusal to write such a record.
-    pub(crate) fn refusal(self) -> Refusal
-        ensures { result ≡ refusal_of self }
-    {
-        match self {
+// The refusal to write such a record.
+impl From<Misfit> for Refusal {
+    ghost from_gives = { λ e r. r ≡ refusal_of e };
+
+    fn from(e: Misfit) -> Refusal {
+        match e {
             Misfit::Range => Refusal::OutOfRange,
             Misfit::Atom => Refusal::UnknownAtom,
         }
     }
 }
 
-// Whether there may be so many atoms and hands.
-pub(crate) fn size_fits(atoms: u8, hands: u8) -> Result<(), Misfit>
-    ensures { MatchResult result (λ _. InRange 0 0 (size_is atoms hands)) (Misses 0 0 0 (size_is atoms hands)) }
+// Whether a problem of so many atoms has all that are in a set.
+fn named(set: u64, atoms: u8) -> Result<(), Misfit>
+    ensures { MatchResult result (λ _. Within atoms set) (λ k. (k ≡ Misfit.Atom) × (Within atoms set → ⊥)) }
 {
-    if atoms >= 1 && atoms <= 64 && hands >= 1 && hands <= 4 {
+    if within(set, usize::from(atoms)) {
+        Ok(())
+    } else {
+        Err(Misfit::Atom)
+    }
+}
+
+// Whether there may be so many atoms and hands. Crate problem tests them too, with all else of a problem, for rows that come from no text.
+pub(crate) fn size_fits(atoms: u8, hands: u8) -> Result<(), Misfit>
+    ensures { Fit 0 0 0 (size_is atoms hands) result }
+{
+    if matches!(atoms, 1..=64) && matches!(hands, 1..=4) {
         Ok(())
     } else {
         Err(Misfit::Range)
@@ -51,46 +64,27 @@ pub(crate) fn size_fits(atoms: u8, hands: u8) -> Result<(), Misfit>
 
 // Whether a problem of so many atoms may have this first state.
 pub(crate) fn first_fits(first: u64, atoms: u8) -> Result<(), Misfit>
-    ensures { MatchResult result (λ _. Naming atoms (first_is first)) (Misses 0 0 atoms (first_is first)) }
+    ensures { Fit 0 0 atoms (first_is first) result }
 {
-    if within(first, atoms as usize) {
-        Ok(())
-    } else {
-        Err(Misfit::Atom)
-    }
+    named(first, atoms)
 }
 
 // Whether a further action may have this precondition.
 pub(crate) fn action_fits(actions: usize, precondition: u64, atoms: u8) -> Result<(), Misfit>
-    ensures { MatchResult result
-        (λ _. InRange actions 0 (action_is precondition) × Naming atoms (action_is precondition))
-        (Misses actions 0 atoms (action_is precondition)) }
+    ensures { Fit actions 0 atoms (action_is precondition) result }
 {
     if actions >= 64 {
         return Err(Misfit::Range);
     }
-    if within(precondition, atoms as usize) {
-        Ok(())
-    } else {
-        Err(Misfit::Atom)
-    }
+    named(precondition, atoms)
 }
 
 // Whether the latest action, with so many effects, may have this one too.
 pub(crate) fn effect_fits(latest: usize, effect: EffectRow, atoms: u8) -> Result<(), Misfit>
-    ensures { MatchResult result
-        (λ _. InRange 0 latest (effect_is effect) × Naming atoms (effect_is effect))
-        (Misses 0 latest atoms (effect_is effect)) }
+    ensures { Fit 0 latest atoms (effect_is effect) result }
 {
     if latest >= 8 {
         return Err(Misfit::Range);
     }
-    if within(
-        effect.condition | effect.add | effect.delete,
-        atoms as usize,
-    ) {
-        Ok(())
-    } else {
-        Err(Misfit::Atom)
-    }
+    named(effect.condition | effect.add | effect.delete, atoms)
 }

@@ -3,17 +3,9 @@ ghost use Rattle.text.specs.Inputs.{Asks};
 use crate::bytes::{set_at, word_at};
 use crate::fault::ProgramFault;
 use crate::record::{Kind, Record, kind_at, record_at};
+use problem::{Goal, Question};
 
-// A question to the program, with its values as they stand in the text.
-#[derive(Clone, Copy)]
-pub struct Question {
-    pub need: u64,
-    pub avoid: u64,
-    pub limit: u8,
-    pub budget: u32,
-}
-
-// A question that was read, and where the next one would begin.
+// A question that was read, with its values as they stand in the text, and where the next one would begin.
 #[derive(Clone, Copy)]
 pub struct Asked {
     pub question: Question,
@@ -27,16 +19,20 @@ pub fn next_question(text: &[u8], at: usize) -> Result<Option<Asked>, ProgramFau
     if at >= text.len() {
         return Ok(None);
     }
+    // the kind first: a record of another kind is no question, even where its body is cut
     let Kind::Question = kind_at(text, at)? else {
         return Err(ProgramFault::After(at));
     };
     let found = record_at(text, at)?;
     let Record::Question(body) = found.record else {
-        return Err(ProgramFault::After(at));
+        unreachable!();
     };
-    let question = Question {
+    let goal = Goal {
         need: set_at(body, 0),
         avoid: set_at(body, 8),
+    };
+    let question = Question {
+        goal,
         limit: body[16],
         budget: word_at(body, 17),
     };

@@ -24,10 +24,8 @@ fn fill(text: &[u8], from: usize, actions: &mut Filled<ActionRow>, effects: &mut
     actions.clear();
     effects.clear();
     let mut at = from;
-    loop {
-        let Ok(found) = record_at(text, at) else {
-            return;
-        };
+    // a cursor: the next record begins where this one ends
+    while let Ok(found) = record_at(text, at) {
         match found.record {
             Record::Action(body) => {
                 let row = ActionRow {
@@ -39,7 +37,7 @@ fn fill(text: &[u8], from: usize, actions: &mut Filled<ActionRow>, effects: &mut
             Record::Effect(body) => {
                 effects.push(effect_in(body));
             }
-            _ => return,
+            _ => break,
         }
         at = found.next;
     }

@@ -1,5 +1,5 @@
-ghost use Rattle.std.specs.Prelude.{◌≡◌, ℕ, ◌+◌, ◌<◌, ◌≤◌, length, MatchOption};
-ghost use Rattle.text.specs.Records.{code_of, kind_of, body_of, body_length, Known, KindAt, RecordAt};
+ghost use Rattle.std.specs.Prelude.{◌≡◌, ℕ, ◌+◌, ◌<◌, ◌≤◌, length};
+ghost use Rattle.text.specs.Records.{code_of, kind_of, body_of, body_length, Decodes, KindAt, RecordAt};
 
 use crate::fault::RecordFault;
 
@@ -70,18 +70,22 @@ impl Kind {
     }
 }
 
-// The kind that a byte stands for.
-fn kind_of(byte: u8) -> Option<Kind>
-    ensures { MatchOption result (Known byte → ⊥) (λ k. code_of k ≡ byte) }
-{
-    match byte {
-        1 => Some(Kind::Size),
-        2 => Some(Kind::First),
-        3 => Some(Kind::Action),
-        4 => Some(Kind::Effect),
-        5 => Some(Kind::End),
-        6 => Some(Kind::Question),
-        _ => None,
+// The kind that a byte stands for; no kind for any other byte.
+impl TryFrom<u8> for Kind {
+    type Error = ();
+
+    ghost try_from_gives = { Decodes };
+
+    fn try_from(byte: u8) -> Result<Kind, ()> {
+        match byte {
+            1 => Ok(Kind::Size),
+            2 => Ok(Kind::First),
+            3 => Ok(Kind::Action),
+            4 => Ok(Kind::Effect),
+            5 => Ok(Kind::End),
+            6 => Ok(Kind::Question),
+            _ => Err(()),
+        }
     }
 }
 
@@ -89,13 +93,8 @@ fn kind_of(byte: u8) -> Option<Kind>
 pub fn kind_at(text: &[u8], at: usize) -> Result<Kind, RecordFault>
     ensures { KindAt text.now at result }
 {
-    if at >= text.len() {
-        return Err(RecordFault::Cut(at));
-    }
-    match kind_of(text[at]) {
-        Some(kind) => Ok(kind),
-        None => Err(RecordFault::Unknown(at)),
-    }
+    let byte = *text.get(at).ok_or(RecordFault::Cut(at))?;
+    Kind::try_from(byte).map_err(|()| RecordFault::Unknown(at))
 }
 
 // The record at `at`.
@@ -103,12 +102,11 @@ pub fn record_at<'a>(text: &'a [u8], at: usize) -> Result<Found<'a>, RecordFault
     ensures { RecordAt text.now at result }
 {
     let kind = kind_at(text, at)?;
-    let from = at + 1;
-    let size = kind.body_length();
-    if text.len() - from < size {
-        return Err(RecordFault::Cut(at));
-    }
-    let next = from + size;
-    let record = kind.with_body(&text[from..next]);
-    Ok(Found { at, record, next })
+    let rest = &text[at + 1..];
+    let body = rest.get(..kind.body_length()).ok_or(RecordFault::Cut(at))?;
+    Ok(Found {
+        at,
+        record: kind.with_body(body),
+        next: at + 1 + body.len(),
+    })
 }

@@ -20,25 +20,19 @@ pub fn text_length(problem: &Problem) -> usize
 }
 
 // Writes the effects of the latest action, which has none yet.
-fn write_effects(
-    started: StartedText,
-    effects: &[EffectRow],
-    out: &mut [u8],
-) -> Result<StartedText, Refusal>
+fn write_effects(started: StartedText, effects: &[EffectRow], out: &mut [u8]) -> StartedText
     requires acted { 0 < started.actions }
     requires fresh { started.latest ≡ 0 }
     requires few { length effects.now ≤ 8 }
     requires named { EffectsNamed started.atoms effects.now }
     requires room { started.len + length (effects_text effects.now) ≤ length out.old }
-    ensures { MatchResult result
-        (λ s. Appends started s (effects_text effects.now) 0 out.old out.new)
-        (λ _. ⊥) }
+    ensures { Appends started result (effects_text effects.now) 0 out.old out.new }
 {
     let mut text = started;
     for e in effects {
-        text = text.effect(*e, out)?;
+        text = text.effect(*e, out).unwrap();
     }
-    Ok(text)
+    text
 }
 
 // Writes an action with its effects.
@@ -47,39 +41,31 @@ fn write_action(
     precondition: u64,
     effects: &[EffectRow],
     out: &mut [u8],
-) -> Result<StartedText, Refusal>
+) -> StartedText
     requires few_actions { started.actions < 64 }
     requires within { Within started.atoms precondition }
     requires few { length effects.now ≤ 8 }
     requires named { EffectsNamed started.atoms effects.now }
     requires room { started.len + length (action_text (record { precondition = precondition; effects = effects.now })) ≤ length out.old }
-    ensures { MatchResult result
-        (λ s. Appends started s (action_text (record { precondition = precondition; effects = effects.now })) 1 out.old out.new)
-        (λ _. ⊥) }
+    ensures { Appends started result (action_text (record { precondition = precondition; effects = effects.now })) 1 out.old out.new }
 {
-    let acted = started.action(precondition, out)?;
+    let acted = started.action(precondition, out).unwrap();
     write_effects(acted, effects, out)
 }
 
 // Writes the actions of a problem, each with its effects.
-fn write_actions(
-    started: StartedText,
-    problem: &Problem,
-    out: &mut [u8],
-) -> Result<StartedText, Refusal>
+fn write_actions(started: StartedText, problem: &Problem, out: &mut [u8]) -> StartedText
     requires fresh { started.actions ≡ 0 }
     requires atoms { started.atoms ≡ problem.now.atoms }
     requires room { started.len + length (actions_text (task_of problem.now).at (task_of problem.now).count) ≤ length out.old }
-    ensures { MatchResult result
-        (λ s. Appends started s (actions_text (task_of problem.now).at (task_of problem.now).count)
-        (task_of problem.now).count out.old out.new)
-        (λ _. ⊥) }
+    ensures { Appends started result (actions_text (task_of problem.now).at (task_of problem.now).count)
+        (task_of problem.now).count out.old out.new }
 {
     let mut text = started;
-    for k in 0..problem.actions.len() {
-        text = write_action(text, problem.precondition_of(k), problem.effects_of(k), out)?;
+    for (k, row) in problem.actions.iter().enumerate() {
+        text = write_action(text, row.precondition, problem.effects_of(k), out);
     }
-    Ok(text)
+    text
 }
 
 // Writes a whole problem, from the first byte on: how many bytes its text has. Bytes that are too few are refused first.
@@ -95,9 +81,12 @@ pub fn write_problem(problem: &Problem, out: &mut [u8]) -> Result<usize, Refusal
     if out.len() < text_length(problem) {
         return Err(Refusal::TooShort);
     }
-    let sized = BlankText::new().size(problem.atoms, problem.hands, out)?;
-    let started = sized.first(problem.first, out)?;
-    let acted = write_actions(started, problem, out)?;
-    let ended = acted.end(out)?;
+    // a problem's values fit and there is room, so no record is refused
+    let sized = BlankText::new()
+        .size(problem.atoms, problem.hands, out)
+        .unwrap();
+    let started = sized.first(problem.first, out).unwrap();
+    let acted = write_actions(started, problem, out);
+    let ended = acted.end(out).unwrap();
     Ok(ended.len)
 }

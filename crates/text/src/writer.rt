@@ -1,11 +1,13 @@
-ghost use Rattle.std.specs.Prelude.{◌≡◌, ℕ, ◌+◌, ◌≤◌, List, ◌∷◌, ◌++◌, length, IfOk, Decides, MatchResult};
+ghost use Rattle.std.specs.Prelude.{◌≡◌, ℕ, ◌+◌, ◌≤◌, List, length, ◌∷◌, ◌++◌, Ok, Err, IfOk, MatchResult};
 ghost use Rattle.text.specs.Bytes.{bytes_of, put};
+ghost use Rattle.text.specs.Records.{code_of};
 ghost use Rattle.text.specs.Texts.{size_is, first_is, action_is, effect_is, end_is, item_text};
 ghost use Rattle.text.specs.Readings.{Draft, nothing, more};
-ghost use Rattle.text.specs.Writings.{blank_mark, sized_mark, started_mark, ended_mark, Wrote, Refused, Holds, HoldsWhole};
+ghost use Rattle.text.specs.Writings.{blank_mark, sized_mark, started_mark, ended_mark, Wrote, Admits, Refused, Holds, HoldsWhole};
 
-use crate::bytes::put_set;
-use crate::fits::{action_fits, effect_fits, first_fits, size_fits};
+use crate::bytes::{put_bytes, put_set};
+use crate::fits::{Misfit, action_fits, effect_fits, first_fits, size_fits};
+use crate::record::Kind;
 use problem::{EffectRow, Refusal};
 
 // A text with no record yet. Each state of a text is moved into the next; the bytes are lent at each call.
@@ -52,19 +54,37 @@ impl<T: Drop> From<Back<T>> for Refusal {
     }
 }
 
-// Whether `more` bytes fit behind the first `len` of `size`.
-fn has_room(size: usize, len: usize, more: usize) -> bool
-    ensures { Decides result (len + more ≤ size) }
+// Whether a record may be written: its values fit, and its `more` bytes have room behind the first `len` of `size`.
+fn admits(fit: Result<(), Misfit>, size: usize, len: usize, more: usize) -> Result<(), Refusal>
+    ensures { Admits fit size len more result }
 {
-    size >= more && size - more >= len
+    fit?;
+    if size.checked_sub(more).is_some_and(|most| len <= most) {
+        Ok(())
+    } else {
+        Err(Refusal::TooShort)
+    }
+}
+
+// The state, where a record is admitted; else the refusal, with the state as it was.
+// A function: a closure for `map_err` would take the state where the call goes on too.
+fn admitted<T>(state: T, fit: Result<(), Refusal>) -> Result<T, Back<T>>
+    ensures { MatchResult result
+        (λ s. (s ≡ state) × (fit ≡ Ok tt))
+        (λ b. (b.state ≡ state) × (fit ≡ Err b.refusal)) }
+{
+    match fit {
+        Ok(()) => Ok(state),
+        Err(refusal) => Err(Back { state, refusal }),
+    }
 }
 
 // Writes a kind and a set.
-fn put_set_record(out: &mut [u8], at: usize, kind: u8, set: u64)
+fn put_set_record(out: &mut [u8], at: usize, kind: Kind, set: u64)
     requires { at + 9 ≤ length out.old }
-    ensures { out.new ≡ put out.old at (kind ∷ bytes_of 8 set) }
+    ensures { out.new ≡ put out.old at (code_of kind ∷ bytes_of 8 set) }
 {
-    out[at] = kind;
+    put_bytes(out, at, &[kind as u8]);
     put_set(out, at + 1, set);
 }
 
@@ -73,7 +93,7 @@ fn put_effect(out: &mut [u8], at: usize, effect: EffectRow)
     requires { at + 25 ≤ length out.old }
     ensures { out.new ≡ put out.old at (item_text (effect_is effect)) }
 {
-    put_set_record(out, at, 4, effect.condition);
+    put_set_record(out, at, Kind::Effect, effect.condition);
     put_set(out, at + 9, effect.add);
     put_set(out, at + 17, effect.delete);
 }
@@ -93,24 +113,11 @@ impl BlankText {
         ensures written { (d : Draft) → Holds (blank_mark self) d out.old
             → IfOk result (λ s. Holds (sized_mark s) (more d (size_is atoms hands)) out.new) }
     {
-        if let Err(misfit) = size_fits(atoms, hands) {
-            return Err(Back {
-                state: self,
-                refusal: misfit.refusal(),
-            });
-        }
-        let len = self.len;
-        if !has_room(out.len(), len, 3) {
-            return Err(Back {
-                state: self,
-                refusal: Refusal::TooShort,
-            });
-        }
-        out[len] = 1;
-        out[len + 1] = atoms;
-        out[len + 2] = hands;
+        let fit = admits(size_fits(atoms, hands), out.len(), self.len, 3);
+        let text = admitted(self, fit)?;
+        put_bytes(out, text.len, &[Kind::Size as u8, atoms, hands]);
         Ok(SizedText {
-            len: len + 3,
+            len: text.len + 3,
             atoms,
         })
     }
@@ -125,23 +132,12 @@ impl SizedText {
         ensures written { (d : Draft) → Holds (sized_mark self) d out.old
             → IfOk result (λ s. Holds (started_mark s) (more d (first_is first)) out.new) }
     {
-        if let Err(misfit) = first_fits(first, self.atoms) {
-            return Err(Back {
-                state: self,
-                refusal: misfit.refusal(),
-            });
-        }
-        let len = self.len;
-        if !has_room(out.len(), len, 9) {
-            return Err(Back {
-                state: self,
-                refusal: Refusal::TooShort,
-            });
-        }
-        put_set_record(out, len, 2, first);
+        let fit = admits(first_fits(first, self.atoms), out.len(), self.len, 9);
+        let text = admitted(self, fit)?;
+        put_set_record(out, text.len, Kind::First, first);
         Ok(StartedText {
-            len: len + 9,
-            atoms: self.atoms,
+            len: text.len + 9,
+            atoms: text.atoms,
             actions: 0,
             latest: 0,
         })
@@ -157,25 +153,15 @@ impl StartedText {
         ensures written { (d : Draft) → Holds (started_mark self) d out.old
             → IfOk result (λ s. Holds (started_mark s) (more d (action_is precondition)) out.new) }
     {
-        if let Err(misfit) = action_fits(self.actions, precondition, self.atoms) {
-            return Err(Back {
-                state: self,
-                refusal: misfit.refusal(),
-            });
-        }
-        let len = self.len;
-        if !has_room(out.len(), len, 9) {
-            return Err(Back {
-                state: self,
-                refusal: Refusal::TooShort,
-            });
-        }
-        put_set_record(out, len, 3, precondition);
+        let fits = action_fits(self.actions, precondition, self.atoms);
+        let fit = admits(fits, out.len(), self.len, 9);
+        let text = admitted(self, fit)?;
+        put_set_record(out, text.len, Kind::Action, precondition);
         Ok(StartedText {
-            len: len + 9,
-            atoms: self.atoms,
-            actions: self.actions + 1,
+            len: text.len + 9,
+            actions: text.actions + 1,
             latest: 0,
+            ..text
         })
     }
 
@@ -187,31 +173,18 @@ impl StartedText {
         ensures written { (d : Draft) → Holds (started_mark self) d out.old
             → IfOk result (λ s. Holds (started_mark s) (more d (effect_is effect)) out.new) }
     {
-        if self.actions == 0 {
-            return Err(Back {
-                state: self,
-                refusal: Refusal::WrongPlace,
-            });
-        }
-        if let Err(misfit) = effect_fits(self.latest, effect, self.atoms) {
-            return Err(Back {
-                state: self,
-                refusal: misfit.refusal(),
-            });
-        }
-        let len = self.len;
-        if !has_room(out.len(), len, 25) {
-            return Err(Back {
-                state: self,
-                refusal: Refusal::TooShort,
-            });
-        }
-        put_effect(out, len, effect);
+        let fit = if self.actions == 0 {
+            Err(Refusal::WrongPlace)
+        } else {
+            let fits = effect_fits(self.latest, effect, self.atoms);
+            admits(fits, out.len(), self.len, 25)
+        };
+        let text = admitted(self, fit)?;
+        put_effect(out, text.len, effect);
         Ok(StartedText {
-            len: len + 25,
-            atoms: self.atoms,
-            actions: self.actions,
-            latest: self.latest + 1,
+            len: text.len + 25,
+            latest: text.latest + 1,
+            ..text
         })
     }
 
@@ -223,14 +196,9 @@ impl StartedText {
         ensures written { (d : Draft) → Holds (started_mark self) d out.old
             → IfOk result (λ s. HoldsWhole s.len d out.new) }
     {
-        let len = self.len;
-        if !has_room(out.len(), len, 1) {
-            return Err(Back {
-                state: self,
-                refusal: Refusal::TooShort,
-            });
-        }
-        out[len] = 5;
-        Ok(EndedText { len: len + 1 })
+        let fit = admits(Ok(()), out.len(), self.len, 1);
+        let text = admitted(self, fit)?;
+        put_bytes(out, text.len, &[Kind::End as u8]);
+        Ok(EndedText { len: text.len + 1 })
     }
 }

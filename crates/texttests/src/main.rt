@@ -3,8 +3,9 @@
 mod cases;
 mod lists;
 mod model;
+mod record;
 mod round;
-mod sheet;
+mod rows;
 mod show;
 
 use model::write_model;

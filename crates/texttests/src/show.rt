@@ -1,33 +1,17 @@
-use problem::{ActionRow, EffectRow};
+use crate::rows::Rows;
+use problem::{Goal, Question};
 use sets::Filled;
 use std::io;
-use text::{Asked, Layer, Report, Taken, next_question, read_input};
-
-// A row that no text of the cases holds.
-pub const ROW: ActionRow = ActionRow {
-    precondition: 7,
-    first_effect: 7,
-};
-
-pub const CHANGE: EffectRow = EffectRow {
-    condition: 7,
-    add: 7,
-    delete: 7,
-};
-
-fn layer_name(layer: Layer) -> &'static str {
-    match layer {
-        Layer::Record => "record",
-        Layer::Problem => "problem",
-        Layer::Program => "program",
-    }
-}
+use text::{Asked, ProgramFault, Report, Taken, next_question, read_input};
 
 // The number of a fault, its offset and its layer.
-pub fn show_report(rt: &HostRuntime, report: Report) -> io::Result<()> {
-    let number = report.refusal.number();
-    let offset = report.offset;
-    let layer = layer_name(report.layer);
+fn show_report(rt: &HostRuntime, report: Report) -> io::Result<()> {
+    let Report {
+        refusal,
+        offset,
+        layer,
+    } = report;
+    let number = refusal.number();
     println!(rt; "{number} at {offset}, {layer}")
 }
 
@@ -38,33 +22,48 @@ pub fn show_taken(
     actions: usize,
     effects: usize,
 ) -> io::Result<()> {
-    let bytes = taken.bytes;
-    let atoms = taken.atoms;
-    let hands = taken.hands;
-    let first = taken.first;
+    let Taken {
+        atoms,
+        hands,
+        first,
+        bytes,
+    } = taken;
     println!(rt;
         "{bytes} bytes, {atoms} atoms, {hands} hands, first {first}, {actions} actions, {effects} effects"
     )
 }
 
-// Reads a text and says what is found.
-pub fn show(rt: &HostRuntime, text: &[u8]) -> io::Result<()> {
-    let mut rows = [ROW; 64];
-    let mut changes = [CHANGE; 512];
-    let mut actions = Filled::over(&mut rows, 64);
-    let mut effects = Filled::over(&mut changes, 512);
-    match read_input(text, &mut actions, &mut effects) {
-        Ok(taken) => show_taken(rt, taken, actions.len(), effects.len()),
-        Err(fault) => show_report(rt, fault.report()),
+// Says what a reading gave, with so many rows in the lists.
+pub fn show_outcome(
+    rt: &HostRuntime,
+    outcome: Result<Taken, Report>,
+    actions: usize,
+    effects: usize,
+) -> io::Result<()> {
+    match outcome {
+        Ok(taken) => show_taken(rt, taken, actions, effects),
+        Err(report) => show_report(rt, report),
     }
 }
 
+// Reads a text and says what is found.
+pub fn show(rt: &HostRuntime, text: &[u8]) -> io::Result<()> {
+    let mut rows = Rows::new();
+    let mut actions = Filled::over(&mut rows.actions, 64);
+    let mut effects = Filled::over(&mut rows.effects, 512);
+    let outcome = read_input(text, &mut actions, &mut effects).map_err(ProgramFault::report);
+    show_outcome(rt, outcome, actions.len(), effects.len())
+}
+
 fn show_asked(rt: &HostRuntime, asked: Asked) -> io::Result<()> {
-    let need = asked.question.need;
-    let avoid = asked.question.avoid;
-    let limit = asked.question.limit;
-    let budget = asked.question.budget;
-    let next = asked.next;
+    let Asked {
+        question: Question {
+            goal: Goal { need, avoid },
+            limit,
+            budget,
+        },
+        next,
+    } = asked;
     println!(rt; "need {need}, avoid {avoid}, limit {limit}, budget {budget}, next at {next}")
 }
 

@@ -1,30 +1,14 @@
-ghost use Rattle.std.specs.Prelude.{◌≡◌, ℕ, ◌+◌, ◌*◌, ◌<◌, ◌≢◌, slice_index};
-ghost use Rattle.sets.specs.Sets.{Marks};
-ghost use Rattle.problem.specs.Firm.{Task};
+ghost use Rattle.std.specs.Prelude.{◌≡◌, ℕ, ◌<◌, ◌≢◌};
 ghost use Rattle.problem.specs.Problems.{task_of};
-ghost use Rattle.graph.specs.Levels.{level, Same, Supported, Excludes};
+ghost use Rattle.graph.specs.Levels.{level, Same};
 ghost use Rattle.graph.specs.Turning.{row};
-ghost use Rattle.graph.specs.Tables.{MovesOf, SupportsOf};
-ghost use Rattle.graph.specs.Graphs.{facts_at, row_at, level_in, GraphOf};
+ghost use Rattle.graph.specs.Graphs.{facts_at, row_at, rows_at, level_in, GraphOf};
 
-use crate::exclusion::{next_exclusions, next_facts};
 use crate::graph::Graph;
+use crate::growth::Growth;
 use crate::layer::Layer;
 use crate::moves::links_of;
-use crate::support::supports_of;
-use crate::table::Links;
 use problem::Problem;
-
-// Writes the 64 rows of level `n`.
-fn put_rows(table: &mut [u64; 2112], n: usize, rows: &[u64; 64])
-    requires { n < 33 }
-    ensures put { (a : ℕ) → a < 64 → slice_index table.new (64 * n + a) ≡ row rows.now a }
-    ensures others { (k a : ℕ) → k ≢ n → a < 64 → slice_index table.new (64 * k + a) ≡ slice_index table.old (64 * k + a) }
-{
-    for atom in 0..64 {
-        table[64 * n + atom] = rows[atom];
-    }
-}
 
 impl Graph {
     // A table in which level 0 stands: the atoms of the first state, and no exclusions.
@@ -42,43 +26,30 @@ impl Graph {
     }
 
     // Level `n` as it is read.
-    fn layer(&self, n: usize) -> Layer<'_>
+    pub(crate) fn layer(&self, n: usize) -> Layer<'_>
         requires { n < 33 }
         ensures facts { result.facts ≡ facts_at self.now n }
-        ensures rows { (a : ℕ) → a < 64 → row result.exclusive.now a ≡ row_at self.now n a }
+        ensures rows { result.exclusive.now ≡ rows_at self.now n }
     {
-        let first = 64 * n;
+        let (levels, _) = self.exclusive.as_chunks::<64>();
         Layer {
             facts: self.facts[n],
-            exclusive: &self.exclusive[first..first + 64],
+            exclusive: &levels[n],
         }
     }
 
-    // Finds the facts of level `n` + 1: the atoms that are supported at level `n`.
-    fn find_facts(&mut self, n: usize, supports: &[u64; 64])
-        requires { n < 32 }
-        ensures found { (t : Task) → SupportsOf t (level_in self.old n) supports.now
-            → Marks (facts_at self.new (n + 1)) (Supported t (level_in self.old n)) }
-        ensures others { (k : ℕ) → k ≢ n + 1 → facts_at self.new k ≡ facts_at self.old k }
-        ensures rows { self.new.exclusive ≡ self.old.exclusive }
+    // Writes level `n`.
+    fn put_level(&mut self, n: usize, facts: u64, rows: &[u64; 64])
+        requires { n < 33 }
+        ensures facts { facts_at self.new n ≡ facts }
+        ensures rows { (a : ℕ) → a < 64 → row_at self.new n a ≡ row rows.now a }
+        ensures other_facts { (k : ℕ) → k ≢ n → facts_at self.new k ≡ facts_at self.old k }
+        ensures other_rows { (k a : ℕ) → k ≢ n → a < 64 → row_at self.new k a ≡ row_at self.old k a }
         ensures atoms { self.new.atoms ≡ self.old.atoms }
     {
-        let facts = next_facts(&self.layer(n), supports);
-        self.facts[n + 1] = facts;
-    }
-
-    // Finds the exclusions of level `n` + 1, whose facts stand already.
-    fn find_exclusions(&mut self, n: usize, links: &Links, supports: &[u64; 64])
-        requires { n < 32 }
-        ensures found { (t : Task) → MovesOf t links.now.moves → SupportsOf t (level_in self.old n) supports.now
-            → Marks (facts_at self.old (n + 1)) (Supported t (level_in self.old n))
-            → (f : ℕ) → f < 64 → Marks (row_at self.new (n + 1) f) (Excludes t (level_in self.old n) f) }
-        ensures others { (k a : ℕ) → k ≢ n + 1 → a < 64 → row_at self.new k a ≡ row_at self.old k a }
-        ensures facts { self.new.facts ≡ self.old.facts }
-        ensures atoms { self.new.atoms ≡ self.old.atoms }
-    {
-        let rows = next_exclusions(links, &self.layer(n), supports, self.facts[n + 1]);
-        put_rows(&mut self.exclusive, n + 1, &rows);
+        let first = 64 * n;
+        self.facts[n] = facts;
+        self.exclusive[first..first + 64].copy_from_slice(rows);
     }
 
     // The planning graph of a problem.
@@ -87,10 +58,12 @@ impl Graph {
     {
         let links = links_of(problem);
         let mut graph = Graph::begin(problem);
+        // A loop over the numbers, since each level is read from the table into which the next is written.
         for n in 0..32 {
-            let supports = supports_of(problem, &graph.layer(n));
-            graph.find_facts(n, &supports);
-            graph.find_exclusions(n, &links, &supports);
+            let growth = Growth::new(&links, graph.layer(n));
+            let facts = growth.facts;
+            let rows = growth.exclusions();
+            graph.put_level(n + 1, facts, &rows);
         }
         graph
     }

@@ -5,7 +5,7 @@ ghost use Rattle.graph.specs.Levels.{Same, Closing};
 ghost use Rattle.graph.specs.Graphs.{atoms_of, facts_at, row_at, level_in, bars_in};
 ghost use Rattle.graph.specs.Questions.{Answered};
 
-use crate::asking::check_question;
+use crate::asking::{check_level, check_question};
 use crate::graph::Graph;
 use crate::masks::has;
 use problem::Refusal;
@@ -16,7 +16,7 @@ impl Graph {
     pub fn facts_at(&self, level: u8) -> Result<u64, Refusal>
         ensures { MatchResult result (λ set. (level ≤ 32) × (set ≡ facts_at self.now level)) (λ e. (e ≡ TooHigh) × (32 < level)) }
     {
-        check_question(level, true)?;
+        check_level(level)?;
         Ok(self.facts[level as usize])
     }
 
@@ -25,7 +25,7 @@ impl Graph {
         ensures { Answered level (atom < atoms_of self.now) (λ set. set ≡ row_at self.now level atom) result }
     {
         check_question(level, atom < self.atoms)?;
-        Ok(self.exclusive[64 * level as usize + atom as usize])
+        Ok(self.layer(level as usize).exclusive[atom as usize])
     }
 
     // The atoms of the problem that a level bars together with an atom.
@@ -57,26 +57,13 @@ impl Graph {
         requires { n < 32 }
         ensures { Decides result (Same (level_in self.now n) (level_in self.now (suc n))) }
     {
-        if self.facts[n] != self.facts[n + 1] {
-            return false;
-        }
-        for atom in 0..64 {
-            if self.exclusive[64 * n + atom] != self.exclusive[64 * (n + 1) + atom] {
-                return false;
-            }
-        }
-        true
+        self.layer(n) == self.layer(n + 1)
     }
 
     // The closing level: the least that has the facts and the exclusions of the next one.
     pub fn closing(&self) -> Option<u8>
         ensures { Closing (level_in self.now) result }
     {
-        for n in 0..32 {
-            if self.same_as_next(n as usize) {
-                return Some(n);
-            }
-        }
-        None
+        (0..32).find(|n| self.same_as_next(*n as usize))
     }
 }

@@ -3,11 +3,11 @@ ghost use Rattle.sets.specs.Sets.{Within};
 ghost use Rattle.problem.specs.Firm.{FirmStep};
 ghost use Rattle.problem.specs.Problems.{task_of};
 ghost use Rattle.plain.specs.Trees.{entry, Seen};
-ghost use Rattle.plain.specs.Growth.{rows_of, Growing, AlikeBounds, Remembered, Unremembered, Stops, Reaches, Grows};
+ghost use Rattle.plain.specs.Growth.{rows_of, Growing, Remembered, Unremembered, Stops, Reaches, Grows};
 
-use super::{Stop, Tree};
+use super::{Bounds, Stop, Tree};
 use crate::reached::Reached;
-use problem::{Problem, Tried};
+use problem::Problem;
 use sets::{next_fit, single};
 use std::alloc::Global;
 
@@ -17,10 +17,7 @@ fn firm_end(problem: &Problem, state: u64, step: u64) -> Option<u64>
         (Within problem.now.atoms state → (end : ℕ) → FirmStep (task_of problem.now) state step end → ⊥)
         (λ end. FirmStep (task_of problem.now) state step end) }
 {
-    match problem.try_step(state, step) {
-        Ok(Tried::Ends(end)) => Some(end),
-        _ => None,
-    }
+    problem.try_step(state, step).unwrap_or(None)
 }
 
 impl Tree {
@@ -32,16 +29,15 @@ impl Tree {
     }
 
     // Remembers a state, unless it was reached before.
-    fn remember(&mut self, e: Reached) -> Result<(), Stop>
-        ensures bounds { AlikeBounds self.old self.new }
-        ensures rows { MatchResult result
-            (λ _. Remembered self.old e self.new)
-            (λ stop. Unremembered self.old e stop) }
+    fn remember(&mut self, e: Reached, most: usize) -> Result<(), Stop>
+        ensures { MatchResult result
+            (λ _. Remembered most self.old e self.new)
+            (λ stop. Unremembered most self.old e stop) }
     {
         if self.has_seen(e.state) {
             return Ok(());
         }
-        if self.reached.len() >= self.most {
+        if self.reached.len() >= most {
             return Err(Stop::Full);
         }
         self.reached.push(e)?;
@@ -49,27 +45,21 @@ impl Tree {
     }
 
     // The tree that has only the first state.
-    pub(crate) fn planted(
-        heap: Global,
-        problem: &Problem,
-        limit: u8,
-        most: usize,
-    ) -> Result<Tree, Stop>
+    pub(crate) fn planted(heap: Global, bounds: &Bounds) -> Result<Tree, Stop>
         ensures { MatchResult result
-            (λ tree. Growing (task_of problem.now) tree 0 × (tree.limit ≡ limit) × (tree.most ≡ most))
-            (λ stop. Stops (task_of problem.now) limit most stop) }
+            (λ tree. Growing (task_of bounds.now.problem.now) bounds.now.limit bounds.now.most tree 0)
+            (λ stop. Stops (task_of bounds.now.problem.now) bounds.now.limit bounds.now.most stop) }
     {
         let mut tree = Tree {
             reached: Vec::new(heap),
-            limit,
-            most,
         };
-        tree.remember(Reached {
-            state: problem.first,
+        let root = Reached {
+            state: bounds.problem.first,
             from: 0,
             step: 0,
             depth: 0,
-        })?;
+        };
+        tree.remember(root, bounds.most)?;
         Ok(tree)
     }
 
@@ -78,34 +68,30 @@ impl Tree {
         ensures { MatchOption result (length (rows_of self.now) ≤ i)
             (λ s. (i < length (rows_of self.now)) × (s ≡ (entry (rows_of self.now) i).state)) }
     {
-        if i < self.reached.len() {
-            Some(self.reached[i].state)
-        } else {
-            None
-        }
+        self.reached.get(i).map(|e| e.state)
     }
 
     // Takes a step out of the entry `from`, unless that lies at the limit, and remembers where it ends; whether it was taken.
-    fn reach(&mut self, problem: &Problem, from: usize, step: u64) -> Result<bool, Stop>
-        requires { Growing (task_of problem.now) self.old from }
-        ensures bounds { AlikeBounds self.old self.new }
-        ensures cases { MatchResult result
-            (λ took. Reaches (task_of problem.now) self.old from step took self.new)
-            (λ stop. Stops (task_of problem.now) self.old.limit self.old.most stop) }
+    fn reach(&mut self, bounds: &Bounds, from: usize, step: u64) -> Result<bool, Stop>
+        requires { Growing (task_of bounds.now.problem.now) bounds.now.limit bounds.now.most self.old from }
+        ensures { MatchResult result
+            (λ took. Reaches (task_of bounds.now.problem.now) bounds.now.limit bounds.now.most self.old from step took self.new)
+            (λ stop. Stops (task_of bounds.now.problem.now) bounds.now.limit bounds.now.most stop) }
     {
         let before = self.reached[from];
-        if before.depth >= self.limit {
+        if before.depth >= bounds.limit {
             return Ok(false);
         }
-        let Some(state) = firm_end(problem, before.state, step) else {
+        let Some(state) = firm_end(bounds.problem, before.state, step) else {
             return Ok(false);
         };
-        self.remember(Reached {
+        let reached = Reached {
             state,
             from,
             step,
             depth: before.depth + 1,
-        })?;
+        };
+        self.remember(reached, bounds.most)?;
         Ok(true)
     }
 
@@ -113,25 +99,23 @@ impl Tree {
     // step is firm, so only firm steps are made wider.
     pub(crate) fn grow(
         &mut self,
-        problem: &Problem,
+        bounds: &Bounds,
         from: usize,
         step: u64,
         action: u32,
     ) -> Result<(), Stop>
-        requires { Growing (task_of problem.now) self.old from }
-        ensures bounds { AlikeBounds self.old self.new }
-        ensures cases { MatchResult result
-            (λ _. Grows (task_of problem.now) self.old from step action self.new)
-            (λ stop. Stops (task_of problem.now) self.old.limit self.old.most stop) }
+        requires { Growing (task_of bounds.now.problem.now) bounds.now.limit bounds.now.most self.old from }
+        ensures { MatchResult result
+            (λ _. Grows (task_of bounds.now.problem.now) bounds.now.limit bounds.now.most self.old from step action self.new)
+            (λ stop. Stops (task_of bounds.now.problem.now) bounds.now.limit bounds.now.most stop) }
     {
-        if action as usize >= problem.actions.len() {
+        if action as usize >= bounds.problem.actions.len() {
             return Ok(());
         }
         let wider = step | single(action);
-        if self.reach(problem, from, wider)? {
-            self.grow(problem, from, wider, action + 1)?;
+        if self.reach(bounds, from, wider)? {
+            self.grow(bounds, from, wider, action + 1)?;
         }
-        self.grow(problem, from, step, action + 1)?;
-        Ok(())
+        self.grow(bounds, from, step, action + 1)
     }
 }

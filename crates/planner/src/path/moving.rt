@@ -1,6 +1,6 @@
 ghost use Rattle.std.specs.Prelude.{◌≡◌, ◌+◌, ◌-◌, ◌<◌, ◌≤◌, [], drop};
 ghost use Rattle.problem.specs.Firm.{Task};
-ghost use Rattle.store.specs.Positions.{at, goal_of};
+ghost use Rattle.store.specs.Positions.{target_of};
 ghost use Rattle.planner.specs.Frames.{frame_at};
 ghost use Rattle.planner.specs.Works.{held_of, Shape, Entered, Took};
 
@@ -8,7 +8,9 @@ use super::Path;
 use crate::frame::Frame;
 use crate::pruning::Pruning;
 use outlook::Outlook;
-use regression::{Due, Found, Node, Part, Region, begin_work, next_due};
+use problem::Goal;
+use regression::{Due, Found, Node, Part, begin_work, next_due};
+use store::Position;
 
 impl Path {
     // Nothing is open.
@@ -17,17 +19,17 @@ impl Path {
         ensures depth { result.depth ≡ 0 }
         ensures shape { (t : Task) → Shape t result }
     {
+        // past the depth and the length the lists say nothing
+        let goal = Goal::default();
         let frame = Frame {
-            level: 0,
-            need: 0,
-            avoid: 0,
+            position: Position { level: 1, goal },
             step: 0,
             base: 0,
         };
         let node = Node {
             chosen: 0,
             candidates: 0,
-            region: Region { need: 0, avoid: 0 },
+            region: goal,
         };
         Path {
             frames: [frame; 32],
@@ -38,40 +40,22 @@ impl Path {
     }
 
     // Opens a position that is due by a step: it becomes the lowest, and the work on it begins.
-    pub(crate) fn open<O: Outlook>(
-        &mut self,
-        outlook: &O,
-        level: u8,
-        need: u64,
-        avoid: u64,
-        step: u64,
-    )
+    pub(crate) fn open<O: Outlook>(&mut self, outlook: &O, position: Position, step: u64)
         requires shallow { self.old.depth < 32 }
         requires shape { Shape (O.task outlook.now) self.old }
-        ensures entered { Entered (O.task outlook.now) self.old (at level (goal_of need avoid)) step self.new }
+        ensures entered { Entered (O.task outlook.now) self.old (target_of position) step self.new }
         ensures shape { Shape (O.task outlook.now) self.new }
     {
         let base = self.len;
-        match begin_work(
-            outlook.problem(),
-            Region { need, avoid },
-            &mut self.nodes,
+        // there is room for the work on 32 positions
+        let part = begin_work(outlook.problem(), position.goal, &mut self.nodes, base).unwrap();
+        self.frames[self.depth] = Frame {
+            position,
+            step,
             base,
-        ) {
-            Some(part) => {
-                self.frames[self.depth] = Frame {
-                    level,
-                    need,
-                    avoid,
-                    step,
-                    base,
-                };
-                self.depth += 1;
-                self.len = base + part.count;
-            }
-            // there is room for the work on 32 positions
-            None => unreachable(),
-        }
+        };
+        self.depth += 1;
+        self.len = base + part.count;
     }
 
     // Takes the lowest position off the path, with the work left on it.
@@ -82,10 +66,10 @@ impl Path {
         ensures depth { self.new.depth + 1 ≡ self.old.depth }
         ensures shape { (t : Task) → Shape t self.old → Shape t self.new }
     {
+        self.len = self.lowest().base;
         self.depth -= 1;
-        let lowest = self.frames[self.depth];
-        self.len = lowest.base;
     }
+
     // The lowest position.
     pub(crate) fn lowest(&self) -> Frame
         requires { (0 < self.now.depth) × (self.now.depth ≤ 32) }
@@ -97,31 +81,24 @@ impl Path {
     // Goes on with the work on the lowest position until a region is made due, or no work is left.
     pub(crate) fn take_due<O: Outlook>(&mut self, outlook: &O) -> Option<Due>
         requires some { 0 < self.old.depth }
-        requires level { 0 < (frame_at self.old.frames (self.old.depth - 1)).level }
         requires shape { Shape (O.task outlook.now) self.old }
         ensures took { Took (O.task outlook.now) (O.view outlook.now) (held_of self.old) result (held_of self.new) }
         ensures shape { Shape (O.task outlook.now) self.new }
         ensures depth { self.new.depth ≡ self.old.depth }
         ensures frames { self.new.frames ≡ self.old.frames }
     {
-        let Frame {
-            level,
-            need,
-            avoid,
-            base,
-            ..
-        } = self.lowest();
+        let Frame { position, base, .. } = self.lowest();
         let part = Part {
             start: base,
             count: self.len - base,
         };
         let pruning = Pruning {
             outlook,
-            level: level - 1,
+            level: position.level - 1,
         };
         match next_due(
             outlook.problem(),
-            Region { need, avoid },
+            position.goal,
             &pruning,
             &mut self.nodes,
             part,
@@ -135,7 +112,7 @@ impl Path {
                 None
             }
             // each position has room for all the nodes that its work can come to
-            Found::NoRoom(_) => unreachable(),
+            Found::NoRoom(_) => unreachable!(),
         }
     }
 }

@@ -37,8 +37,7 @@ impl<'a, T: Copy> Filled<'a, T> {
     pub fn entries(&self) -> &[T]
         ensures { result.now ≡ taken self.now }
     {
-        let held = self.count.min(self.rows.len());
-        &self.rows[0..held]
+        &self.rows[..self.count]
     }
 
     // Holds nothing more; no row is written.

@@ -71,7 +71,7 @@ impl<'a, T> Store for Keeper<'a, T> {
         if self.review(position) {
             return Ok(Answer::Known);
         }
-        if self.list.push(KeptRow::of(position)) {
+        if self.list.push(KeptRow::from(*position)) {
             Ok(Answer::Kept)
         } else {
             self.passed += 1;

@@ -1,13 +1,6 @@
-use Rattle.std.proofs.Common.{ℕ, ◌⊎◌}
-use Rattle.sets.specs.Sets.{Has, Inside}
 use Rattle.graph.specs.Turning.{row}
+use Rattle.graph.proofs.RowSets.{United}
 use Rattle.graph.proofs.masks.union_of.Given as goal
 
-abbrev pub invariant-loop-left : goal.invariant-loop-left
-invariant-loop-left l =
-    Inside l.left l.of
-    × ((g : ℕ) → Has l.all g → (k : ℕ) × Has l.of k × Has (row l.rows k) g)
-    × ((k g : ℕ) → Has l.of k → Has (row l.rows k) g → Has l.all g ⊎ Has l.left k)
-
-abbrev pub decreases-loop-left : goal.decreases-loop-left
-decreases-loop-left l = l.left
+abbrev pub invariant-loop-k : goal.invariant-loop-k
+invariant-loop-k l = United (row l.rows) l.of l.k-iterator.left l.all

@@ -5,4 +5,4 @@ use Rattle.graph.proofs.Supporting.{Counted}
 use Rattle.graph.proofs.support.supported_by.Given as goal
 
 abbrev pub invariant-loop-e : goal.invariant-loop-e
-invariant-loop-e l = Counted (λ e. Together (level_of l.layer) (bit_or l.precondition e.condition)) (λ e. e.add) l.effects l.e-index l.all
+invariant-loop-e l = Counted (λ e. Together (level_of l.layer) (bit_or l.precondition e.condition)) (λ e. e.add) l.e-items l.e-index l.all

@@ -7,10 +7,7 @@ use Rattle.problem.proofs.orders.+every_order.Given as goal
 abbrev pub decreases-every_order : goal.decreases-every_order
 decreases-every_order l = ones l.remaining
 
-abbrev pub invariant-loop-left : goal.invariant-loop-left
-invariant-loop-left l =
-    Inside l.left l.remaining
-    × EachFirst (task_of l.problem).at l.start l.state l.remaining l.left l.end
-
-abbrev pub decreases-loop-left : goal.decreases-loop-left
-decreases-loop-left l = l.left
+abbrev pub invariant-loop-action : goal.invariant-loop-action
+invariant-loop-action l =
+    Inside l.action-iterator.left l.remaining
+    × EachFirst (task_of l.problem).at l.start l.state l.remaining l.action-iterator.left l.end

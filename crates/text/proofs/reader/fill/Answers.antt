@@ -1,6 +1,6 @@
 use Rattle.std.proofs.Common.{arith}
 use Rattle.text.specs.Texts.{contents}
-use Rattle.text.proofs.Decoding.{bytes_under, decoded, found_inside, action_read, effect_read, halted_fault, halted_record}
+use Rattle.text.proofs.Decoding.{action_found, effect_found, halted_fault, halted_record}
 use Rattle.text.proofs.Pushing.{kept_push, kept_from}
 use Rattle.text.proofs.Ahead.{push_action, push_effect, all_taken}
 use Rattle.text.proofs.reader.fill.Goals as goal
@@ -26,46 +26,31 @@ returns-in_default-record c = λ m h s n rows changes ra re v r.
     (kept_from _ _ _ a.same a.room a.lent x.0) (kept_from _ _ _ b.same b.room b.lent x.1)
     (halted_record c.args.text.now c.loop-found.at c.in-Ok.found f.0 f.1 c.in_default-record.not-Action c.in_default-record.not-Effect)
 
-pub loop-found-smaller-in-Action : goal.loop-found-smaller-in-Action
-loop-found-smaller-in-Action c =
-    let r = c.in-Ok.ensures in
-    let i = found_inside c.args.text.now c.in-Ok.found r.1 in
-    omega (arith, r.0)
-
 pub loop-found-preserved-in-Action : goal.loop-found-preserved-in-Action
 loop-found-preserved-in-Action c =
     let x = c.loop-found.invariant in
     let p = c.push.ensures in
     let f = c.in-Ok.ensures in
-    let t = decoded c.args.text.now c.loop-found.at c.in-Ok.found _ (bytes_under _ c.type_inv.text) f.0 f.1 c.in-Action.is (omega arith) in (
+    let a = action_found c.args.text.now c.loop-found.at c.in-Ok.found _ c.type_inv.text f.0 f.1 c.set_at.result c.in-Action.is c.set_at.ensures in (
       kept_push _ _ _ _ c.push.result x.0 p.took p.count p.rows p.room p.lent,
       x.1,
       λ m h s n rows changes ra re v r.
           push_action c.args.text.now m h s (contents m h s rows changes) n c.loop-found.at _ c.set_at.result c.len.result
           c.clear.new.self c.loop-found.actions c.push.new.self c.clear-2.new.self c.loop-found.effects c.push.result
-          (x.2 m h s n rows changes ra re v r) x.0 x.1 ra
-          (action_read c.args.text.now c.loop-found.at _ c.set_at.result c.in-Action.body t c.set_at.ensures)
+          (x.2 m h s n rows changes ra re v r) x.0 x.1 ra a
           c.len.ensures p.took p.taken,
     )
-
-pub loop-found-smaller : goal.loop-found-smaller
-loop-found-smaller c =
-    let r = c.in-Ok.ensures in
-    let i = found_inside c.args.text.now c.in-Ok.found r.1 in
-    omega (arith, r.0)
 
 pub loop-found-preserved : goal.loop-found-preserved
 loop-found-preserved c =
     let x = c.loop-found.invariant in
     let p = c.push-in-Effect.ensures in
     let f = c.in-Ok.ensures in
-    let t = decoded c.args.text.now c.loop-found.at c.in-Ok.found _ (bytes_under _ c.type_inv.text) f.0 f.1 c.in-Effect.is (omega arith) in (
+    let a = effect_found c.args.text.now c.loop-found.at c.in-Ok.found _ c.type_inv.text f.0 f.1 c.effect_in.result c.in-Effect.is c.effect_in.ensures in (
       x.0,
       kept_push _ _ _ _ c.push-in-Effect.result x.1 p.took p.count p.rows p.room p.lent,
       λ m h s n rows changes ra re v r.
           push_effect c.args.text.now m h s (contents m h s rows changes) n c.loop-found.at _ c.effect_in.result
           c.loop-found.actions c.clear-2.new.self c.loop-found.effects c.push-in-Effect.new.self c.push-in-Effect.result
-          (x.2 m h s n rows changes ra re v r) x.1 re
-          (effect_read c.args.text.now c.loop-found.at _ c.effect_in.result c.in-Effect.body t c.effect_in.ensures)
-          p.took p.taken,
+          (x.2 m h s n rows changes ra re v r) x.1 re a p.took p.taken,
     )

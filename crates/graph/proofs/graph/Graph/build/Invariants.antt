@@ -6,5 +6,5 @@ use Rattle.graph.proofs.graph.Graph.build.Given as goal
 
 abbrev pub invariant-loop-n : goal.invariant-loop-n
 invariant-loop-n l =
-    (l.graph.atoms ≡ l.problem.atoms)
-    × ((k : ℕ) → k ≤ l.n → Same (level_in l.graph k) (level (task_of l.problem) k))
+    (l.graph.atoms ≡ l.fn.problem.atoms)
+    × ((k : ℕ) → k ≤ l.n → Same (level_in l.graph k) (level (task_of l.fn.problem) k))

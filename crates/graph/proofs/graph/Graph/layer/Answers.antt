@@ -1,11 +1,9 @@
-use Rattle.std.proofs.Common.{◌+◌, ◌-◌, ◌*◌, drop, refl, ◌∙◌, arith}
-use Rattle.std.proofs.lemmas.List.{get_or-take, get_or-drop}
+use Rattle.std.proofs.Common.{ℕ, List, [], ◌∙◌, ap, get_or, refl, arith}
+use Rattle.graph.proofs.Growing.{chunk}
 use Rattle.graph.proofs.graph.Graph.layer.Goals as goal
 
 pub returns : goal.returns
 returns c = record {
   facts = refl;
-  rows = λ a lt.
-      get_or-take (64 * c.args.n + 64 - 64 * c.args.n) (drop (64 * c.args.n) c.args.self.now.exclusive) a 0 (omega arith)
-      ∙ get_or-drop (64 * c.args.n) c.args.self.now.exclusive a 0;
+  rows = ap (λ (xs : List (List ℕ)). get_or xs c.args.n []) c.as_chunks.ensures.front ∙ chunk _ c.args.n c.args.self.now.exclusive [] (omega arith);
 }

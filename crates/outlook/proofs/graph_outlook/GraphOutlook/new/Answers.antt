@@ -1,6 +1,6 @@
 use Rattle.std.proofs.Common.{refl}
 use Rattle.problem.specs.Problems.{task_of}
-use Rattle.graph.proofs.Fitting.{problem_fits}
+use Rattle.problem.proofs.Fitting.{problem_fits}
 use Rattle.graph.proofs.Answering.{closing_rule}
 use Rattle.outlook.specs.GraphLaws.{of_graph}
 use Rattle.outlook.proofs.graph_outlook.GraphOutlook.new.Goals as goal

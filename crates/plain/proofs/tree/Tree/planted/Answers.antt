@@ -6,7 +6,7 @@ use Rattle.plain.proofs.tree.Tree.planted.Goals as goal
 pub returns-in_err-remember : goal.returns-in_err-remember
 returns-in_err-remember c =
     let p = err_from_is_err_and c.from_residual.result c.from_residual.ensures.1 in
-    rw (p.1, p.2) (stops_root (task_of c.args.problem.now)
-    (record { reached = c.new.result; limit = c.args.limit; most = c.args.most })
-    (record { state = c.args.problem.now.first; from = 0; step = 0; depth = 0 })
-    c.args.limit c.new.ensures.items _ c.in_err-remember.ensures.rows)
+    rw (p.1, p.2) (stops_root (task_of c.args.bounds.now.problem.now) c.args.bounds.now.limit c.args.bounds.now.most
+    (record { reached = c.new.result })
+    (record { state = c.args.bounds.now.problem.now.first; from = 0; step = 0; depth = 0 })
+    c.new.ensures.items _ c.in_err-remember.ensures)

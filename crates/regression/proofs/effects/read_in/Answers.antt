@@ -1,8 +1,0 @@
-use Rattle.problem.proofs.Steps.{gather_more, gather_all}
-use Rattle.regression.proofs.effects.read_in.Goals as goal
-
-pub loop-i-preserved : goal.loop-i-preserved
-loop-i-preserved c = gather_more _ _ _ _ _ c.loop-i.invariant c.in-Some.i c.in-Some.ensures
-
-pub returns : goal.returns
-returns c = gather_all _ _ _ _ _ c.loop-i.invariant c.in_default.ensures
