@@ -12,6 +12,7 @@ const ROWS: usize = 2_000;
 #[derive(Clone, Copy)]
 #[repr(C)]
 pub struct Planned {
+    // a number and no enum, since C reads it
     pub outcome: u32,
     pub steps: u32,
     pub opened: u32,

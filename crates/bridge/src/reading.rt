@@ -2,7 +2,7 @@ use problem::{ActionRow, EffectRow, Problem, Question};
 use sets::Filled;
 use text::{next_question, read};
 
-// Rows for the lists that a text is read into.
+// Rows for the lists that a text is read into, which are made over them where they are used. Those of the texts' check begin as marks.
 #[derive(Drop)]
 pub(crate) struct Rows {
     pub(crate) actions: [ActionRow; 64],

@@ -27,16 +27,12 @@ impl Worked {
 
 // Finds all that is made due below a goal.
 fn work(problem: &Problem, aim: Goal) -> Worked {
-    let mut nodes = [Node {
-        chosen: 0,
-        candidates: 0,
-        region: Goal::default(),
-    }; ROOM];
+    let mut nodes = [Node::default(); ROOM];
     let mut worked = Worked::default();
     let Some(mut part) = begin_work(problem, aim, &mut nodes, 0) else {
         return worked;
     };
-    // what is found has no measure in the contracts, so that the rounds are counted
+    // rounds are counted: with the weight of the part as the measure, which gets less, the proof did not close
     for _due in 0..u32::MAX {
         match next_due(problem, aim, &Nothing, &mut nodes, part) {
             Found::Made(due, left) => {

@@ -7,7 +7,7 @@ fn refusal_number(refusal: Refusal) -> u64 {
     u64::from(refusal.number())
 }
 
-// A fault as a number: where it is, and which.
+// A fault as a number: where it is, and which. C is handed one number, and the plain Rust program makes the same of a fault.
 fn fault_number(fault: ProgramFault) -> u64 {
     let report = fault.report();
     (report.offset as u64)
@@ -42,7 +42,7 @@ fn questions(text: &[u8], at: usize) -> u64 {
     }
 }
 
-// Reads a problem, goes through the questions behind it, and writes the problem; what stops this is told as a number.
+// Reads a problem, goes through the questions behind it, and writes the problem; what stops this is a number, since C is handed one.
 fn there_and_back(text: &[u8], out: &mut [u8]) -> Result<u64, u64> {
     let mut rows = Rows::new();
     let mut actions = Filled::over(&mut rows.actions, 64);

@@ -23,7 +23,7 @@ fn effect_at(k: usize) -> EffectRow {
 fn try_all(problem: &Problem, width: u32, rounds: u32) -> u64 {
     let state = 0x9999_9999_9999_9999;
     let mut sum: u64 = 0;
-    // the number says which step is tried, and the sum goes into the next state
+    // the number says which step is tried, and the sum goes into the next state: a fold would be no shorter
     for i in 0..rounds {
         let step = (0xf >> (4 - width % 5)) << (i % 12);
         sum = sum.wrapping_add(match problem.try_step(state ^ sum & 2, step) {

@@ -15,6 +15,7 @@ fn go_together(a: Report, b: Report, across: bool) -> bool {
 
 // Whether two turns that may have given an answer go together.
 fn agree(a: Option<Report>, b: Option<Report>, across: bool) -> bool {
+    // a table of pairs as well: with `zip` both having none would be lost
     match (a, b) {
         (Some(a), Some(b)) => go_together(a, b, across),
         (None, None) => true,

@@ -13,6 +13,7 @@ pub struct Standing {
     pub levels: usize,
 }
 
+// What is asked, what stood before and the report go together here alone, for two calls.
 // Whether the plain search agrees with the outcome of a report and its steps, and the outlook with "never" or its absence.
 pub fn outcome_right(ask: Ask, before: Standing, report: Report) -> bool {
     match report.outcome {

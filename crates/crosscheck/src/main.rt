@@ -59,6 +59,7 @@ fn reports_under<O: Outlook>(
     ]?)
 }
 
+// Heap, chance and tally go along as they are, here and below: a drawing is lent them, and the tally goes on after it.
 // Draws turns for a problem, takes them in every way, and compares.
 fn check_problem(
     heap: Global,

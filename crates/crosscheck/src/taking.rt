@@ -84,6 +84,7 @@ fn check_refusal(refusal: Refusal, expected: Option<Refusal>, tally: &mut Tally)
     count(&mut tally.wrong_refusals, expected != Some(refusal));
 }
 
+// Outlook, store and tally go along as they are: of the calls below some take no outlook, and the store is read between.
 // Asks what there is to ask, and checks the answer. The list is marked.
 fn ask_with<O: Outlook, S: Store<Teller = Teller>>(
     outlook: &O,
@@ -163,7 +164,7 @@ fn take_clear<S: Store>(store: &mut S, turns: &[Turn], tally: &mut Tally) {
 }
 
 impl Sums {
-    // What the store counts itself.
+    // What the store counts itself; no From, since a store does not become its counts.
     fn of<S: Store>(store: &S) -> Sums {
         Sums {
             kept: store.kept(),

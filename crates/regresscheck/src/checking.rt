@@ -35,16 +35,12 @@ impl Query<'_> {
             asked,
             ..
         } = *self;
-        let mut nodes = [Node {
-            chosen: 0,
-            candidates: 0,
-            region: Goal::default(),
-        }; ROOM];
+        let mut nodes = [Node::default(); ROOM];
         let mut found = Vec::new(heap);
         let Some(mut part) = begin_work(&problem, aim, &mut nodes, 0) else {
             return Ok(None);
         };
-        // what is found has no measure in the contracts, so that the rounds are counted
+        // rounds are counted, since work that goes on for too long is told as unfinished
         for _ in 0..10000u32 {
             match next_due(&problem, aim, &asked, &mut nodes, part) {
                 Found::Made(due, left) => {
@@ -55,7 +51,7 @@ impl Query<'_> {
                     };
                 }
                 Found::Done => return Ok(Some(found)),
-                Found::NoRoom(_) => unreachable(),
+                Found::NoRoom(_) => unreachable!(),
             }
         }
         Ok(None)

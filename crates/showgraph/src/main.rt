@@ -6,7 +6,7 @@ use graph::Graph;
 use problem::Refusal;
 use sets::members_of;
 
-// Why a call declines, as an error of the program.
+// Why a call declines, as an error of the program; no From, since both types are of other crates.
 fn declined(refusal: Refusal) -> anyhow::Error {
     anyhow!("refused {}", refusal.number())
 }

@@ -12,7 +12,7 @@ const CHANGE: EffectRow = EffectRow {
     delete: 7,
 };
 
-// Rows for the lists that a text is read into.
+// Rows for the lists that a text is read into, which are made over them where they are used.
 #[derive(Drop)]
 pub struct Rows {
     pub actions: [ActionRow; 64],
@@ -27,7 +27,7 @@ impl Rows {
         }
     }
 
-    // How many rows of actions were not written.
+    // How many rows of actions were not written; of effects below, where a function for both would be no shorter.
     pub fn kept_actions(&self) -> usize {
         self.actions.iter().filter(|row| **row == ROW).count()
     }
