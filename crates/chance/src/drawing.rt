@@ -3,14 +3,13 @@ use crate::source::Source;
 use problem::{ActionRow, EffectRow};
 use sets::{all_below, lowest, single};
 use std::alloc::{AllocError, Global};
-use std::ops::RangeInclusive;
 
-// How many atoms, hands and actions a problem is to have, at least and at most.
-#[derive(Drop)]
+// How many atoms, hands and actions a problem is to have, at least and at most. Pairs and no ranges: a range is not `Copy`.
+#[derive(Clone, Copy)]
 pub struct Sizes {
-    pub atoms: RangeInclusive<u8>,
-    pub hands: RangeInclusive<u8>,
-    pub actions: RangeInclusive<u8>,
+    pub atoms: (u8, u8),
+    pub hands: (u8, u8),
+    pub actions: (u8, u8),
 }
 
 // An effect, in a problem whose actions get into each other's way a little or much.
@@ -47,8 +46,13 @@ fn draw_action(chance: &mut Chance, rough: bool, source: &mut Source) -> Result<
 
 // Draws the numbers and rows of a problem of such sizes.
 pub fn draw_problem(heap: Global, chance: &mut Chance, sizes: Sizes) -> Result<Source, AllocError> {
-    let atoms = chance.between(sizes.atoms);
-    let hands = chance.between(sizes.hands);
+    let Sizes {
+        atoms: (fewest_atoms, most_atoms),
+        hands: (fewest_hands, most_hands),
+        actions: (fewest_actions, most_actions),
+    } = sizes;
+    let atoms = chance.between(fewest_atoms..=most_atoms);
+    let hands = chance.between(fewest_hands..=most_hands);
     let first = chance.half(all_below(usize::from(atoms)));
     let mut source = Source {
         atoms,
@@ -58,7 +62,7 @@ pub fn draw_problem(heap: Global, chance: &mut Chance, sizes: Sizes) -> Result<S
         effects: Vec::new(heap),
     };
     let rough = chance.below(2) == 1;
-    for _ in 0..chance.between(sizes.actions) {
+    for _ in 0..chance.between(fewest_actions..=most_actions) {
         draw_action(chance, rough, &mut source)?;
     }
     Ok(source)

@@ -8,6 +8,8 @@ mod source;
 
 pub use counting::count;
 pub use drawing::{Sizes, draw_problem};
-pub use model::model_valuation;
+pub use model::{
+    MODEL_ACTIONS, MODEL_ATOMS, MODEL_EFFECTS, MODEL_FIRST, MODEL_HANDS, model_valuation,
+};
 pub use numbers::Chance;
 pub use source::Source;

@@ -35,13 +35,11 @@ const TIMES: u32 = 10;
 const PROBLEMS: u32 = 160;
 
 // Their sizes.
-fn drawn_sizes() -> Sizes {
-    Sizes {
-        atoms: 5..=8,
-        hands: 1..=3,
-        actions: 4..=7,
-    }
-}
+const SIZES: Sizes = Sizes {
+    atoms: (5, 8),
+    hands: (1, 3),
+    actions: (4, 7),
+};
 
 // The reports of the three stores, each of which takes the turns under the outlook.
 fn reports_under<O: Outlook>(
@@ -112,7 +110,7 @@ fn check_models(heap: Global, chance: &mut Chance, tally: &mut Tally) -> Result<
 
 fn check_drawn(heap: Global, chance: &mut Chance, tally: &mut Tally) -> Result<(), AllocError> {
     for _ in 0..PROBLEMS {
-        let source = draw_problem(heap, chance, drawn_sizes())?;
+        let source = draw_problem(heap, chance, SIZES)?;
         check_source(heap, chance, &source, tally)?;
     }
     Ok(())

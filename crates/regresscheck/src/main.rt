@@ -13,13 +13,11 @@ use std::io;
 use tally::Tally;
 
 // The sizes of the problems that are drawn.
-fn drawn_sizes() -> Sizes {
-    Sizes {
-        atoms: 3..=5,
-        hands: 1..=3,
-        actions: 3..=4,
-    }
-}
+const SIZES: Sizes = Sizes {
+    atoms: (3, 5),
+    hands: (1, 3),
+    actions: (3, 4),
+};
 
 // The steps of four actions.
 const STEPS: u64 = 16;
@@ -45,7 +43,7 @@ fn check_goal(heap: Global, query: Query, tally: &mut Tally) -> Result<(), Alloc
 
 // Draws a problem and goals for it, and checks each of them.
 fn check_problem(heap: Global, chance: &mut Chance, tally: &mut Tally) -> Result<(), AllocError> {
-    let source = draw_problem(heap, chance, drawn_sizes())?;
+    let source = draw_problem(heap, chance, SIZES)?;
     let Ok(problem) = source.problem() else {
         count(&mut tally.unfinished, true);
         return Ok(());

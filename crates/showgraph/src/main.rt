@@ -1,9 +1,9 @@
 #![tactic(auto)]
 // Prints the planning graph of the model valuation, level by level: the facts, and the pairs of them that are exclusive.
 use anyhow::anyhow;
-use chance::model_valuation;
+use chance::{MODEL_ACTIONS, MODEL_ATOMS, MODEL_EFFECTS, MODEL_FIRST, MODEL_HANDS};
 use graph::Graph;
-use problem::Refusal;
+use problem::{Problem, Refusal};
 use sets::members_of;
 
 // Why a call declines, as an error of the program; no From, since both types are of other crates.
@@ -55,7 +55,10 @@ fn show_graph(rt: &impl Print, graph: &Graph, atoms: u8) -> anyhow::Result<()> {
 }
 
 fn main(rt: HostRuntime) -> anyhow::Result<()> {
-    let source = model_valuation(rt.alloc())?;
-    let problem = source.problem().map_err(declined)?;
+    // the rows lie on the stack: this program uses no heap
+    let (actions, effects) = (MODEL_ACTIONS, MODEL_EFFECTS);
+    let problem = Problem::new(MODEL_ATOMS, MODEL_HANDS, MODEL_FIRST, &actions, &effects).map_err(
+        declined,
+    )?;
     show_graph(&rt, &Graph::build(&problem), problem.atoms)
 }

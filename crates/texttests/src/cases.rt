@@ -1,4 +1,4 @@
-use crate::record::put_record;
+use crate::record::{Sheet, put_bytes, put_record};
 use crate::show::{show, show_question};
 use std::io;
 
@@ -17,11 +17,12 @@ pub fn kinds(rt: &HostRuntime, text: &[u8], at: usize) -> io::Result<()> {
     let front = &text[0..at.min(text.len())];
     // the number is the byte of the kind, here and below
     for kind in 0..8u8 {
-        let mut made = front.to_vec(rt.alloc())?;
-        made.push(kind)?;
+        let mut made = Sheet::new();
+        put_bytes(&mut made, front);
+        put_bytes(&mut made, &[kind]);
         print!(rt; "kind {kind} at {at}, cut: ")?;
         show(rt, &made)?;
-        made.extend_from_slice(&[0; 24])?;
+        put_bytes(&mut made, &[0; 24]);
         print!(rt; "kind {kind} at {at}, whole: ")?;
         show(rt, &made)?;
     }
@@ -30,8 +31,9 @@ pub fn kinds(rt: &HostRuntime, text: &[u8], at: usize) -> io::Result<()> {
 
 // Other numbers of atoms and hands.
 pub fn size(rt: &HostRuntime, text: &[u8], atoms: u8, hands: u8) -> io::Result<()> {
-    let mut made = text.to_vec(rt.alloc())?;
-    for (place, number) in made.iter_mut().skip(1).zip([atoms, hands]) {
+    let mut made = Sheet::new();
+    put_bytes(&mut made, text);
+    for (place, number) in made.as_mut_slice().iter_mut().skip(1).zip([atoms, hands]) {
         *place = number;
     }
     print!(rt; "{atoms} atoms, {hands} hands: ")?;
@@ -40,15 +42,16 @@ pub fn size(rt: &HostRuntime, text: &[u8], atoms: u8, hands: u8) -> io::Result<(
 
 // So many actions, the last with so many effects.
 pub fn counts(rt: &HostRuntime, actions: usize, effects: usize) -> io::Result<()> {
-    let mut made = vec![in rt.alloc(); 1, 1, 1]?;
-    put_record(&mut made, 2, &[0])?;
+    let mut made = Sheet::new();
+    put_bytes(&mut made, &[1, 1, 1]);
+    put_record(&mut made, 2, &[0]);
     for _ in 0..actions {
-        put_record(&mut made, 3, &[0])?;
+        put_record(&mut made, 3, &[0]);
     }
     for _ in 0..effects {
-        put_record(&mut made, 4, &[0, 0, 0])?;
+        put_record(&mut made, 4, &[0, 0, 0]);
     }
-    made.push(5)?;
+    put_bytes(&mut made, &[5]);
     print!(rt; "{actions} actions, {effects} effects: ")?;
     show(rt, &made)
 }
@@ -59,11 +62,12 @@ pub fn sets(rt: &HostRuntime, atoms: u8, set: u64) -> io::Result<()> {
     for place in 0..5usize {
         let mut values = [0u64; 5];
         values[place] = set;
-        let mut made = vec![in rt.alloc(); 1, atoms, 1]?;
-        put_record(&mut made, 2, &values[0..1])?;
-        put_record(&mut made, 3, &values[1..2])?;
-        put_record(&mut made, 4, &values[2..5])?;
-        made.push(5)?;
+        let mut made = Sheet::new();
+        put_bytes(&mut made, &[1, atoms, 1]);
+        put_record(&mut made, 2, &values[0..1]);
+        put_record(&mut made, 3, &values[1..2]);
+        put_record(&mut made, 4, &values[2..5]);
+        put_bytes(&mut made, &[5]);
         print!(rt; "{atoms} atoms, set {set} in place {place}: ")?;
         show(rt, &made)?;
     }
@@ -72,8 +76,9 @@ pub fn sets(rt: &HostRuntime, atoms: u8, set: u64) -> io::Result<()> {
 
 // Bytes behind the problem.
 pub fn trailing(rt: &HostRuntime, text: &[u8]) -> io::Result<()> {
-    let mut made = text.to_vec(rt.alloc())?;
-    made.extend_from_slice(&[255, 0, 5, 1])?;
+    let mut made = Sheet::new();
+    put_bytes(&mut made, text);
+    put_bytes(&mut made, &[255, 0, 5, 1]);
     print!(rt; "trailing bytes: ")?;
     show(rt, &made)
 }
@@ -81,11 +86,12 @@ pub fn trailing(rt: &HostRuntime, text: &[u8]) -> io::Result<()> {
 // Each kind behind the problem, with a body and without one.
 pub fn questions(rt: &HostRuntime, text: &[u8]) -> io::Result<()> {
     for kind in 0..8u8 {
-        let mut made = text.to_vec(rt.alloc())?;
-        made.push(kind)?;
+        let mut made = Sheet::new();
+        put_bytes(&mut made, text);
+        put_bytes(&mut made, &[kind]);
         print!(rt; "behind it kind {kind}, cut: ")?;
         show_question(rt, &made, text.len())?;
-        made.extend_from_slice(&[9; 21])?;
+        put_bytes(&mut made, &[9; 21]);
         print!(rt; "behind it kind {kind}, whole: ")?;
         show_question(rt, &made, text.len())?;
     }
@@ -95,9 +101,9 @@ pub fn questions(rt: &HostRuntime, text: &[u8]) -> io::Result<()> {
 
 // A question as a user would put it, and the end behind it.
 pub fn one_question(rt: &HostRuntime) -> io::Result<()> {
-    let mut made = Vec::new(rt.alloc());
-    put_record(&mut made, 6, &[0b1_1000, 0b100])?;
-    made.extend_from_slice(&[8, 0, 0, 19, 136])?;
+    let mut made = Sheet::new();
+    put_record(&mut made, 6, &[0b1_1000, 0b100]);
+    put_bytes(&mut made, &[8, 0, 0, 19, 136]);
     print!(rt; "question: ")?;
     show_question(rt, &made, 0)?;
     print!(rt; "next: ")?;

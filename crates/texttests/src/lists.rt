@@ -1,5 +1,5 @@
 use crate::round::{read_again, write_again};
-use crate::rows::Rows;
+use crate::rows::{CHANGE, ROW, kept_actions, kept_effects};
 use crate::show::{show, show_outcome, show_taken};
 use problem::{ActionRow, EffectRow, Problem};
 use sets::Filled;
@@ -13,9 +13,10 @@ pub fn room(
     most_actions: usize,
     most_effects: usize,
 ) -> io::Result<()> {
-    let mut rows = Rows::new();
-    let mut actions = Filled::over(&mut rows.actions, most_actions);
-    let mut effects = Filled::over(&mut rows.effects, most_effects);
+    let mut action_rows = [ROW; 64];
+    let mut effect_rows = [CHANGE; 512];
+    let mut actions = Filled::over(&mut action_rows, most_actions);
+    let mut effects = Filled::over(&mut effect_rows, most_effects);
     print!(rt; "room for {most_actions} and {most_effects}: ")?;
     let outcome = read(text, &mut actions, &mut effects).map_err(ProblemFault::report);
     show_outcome(rt, outcome, actions.len(), effects.len())
@@ -23,14 +24,15 @@ pub fn room(
 
 // How many entries of the lists keep their contents over a reading.
 pub fn kept(rt: &HostRuntime, text: &[u8]) -> io::Result<()> {
-    let mut rows = Rows::new();
+    let mut action_rows = [ROW; 64];
+    let mut effect_rows = [CHANGE; 512];
     {
-        let mut actions = Filled::over(&mut rows.actions, 64);
-        let mut effects = Filled::over(&mut rows.effects, 512);
+        let mut actions = Filled::over(&mut action_rows, 64);
+        let mut effects = Filled::over(&mut effect_rows, 512);
         let _ = read(text, &mut actions, &mut effects);
     }
-    let actions = rows.kept_actions();
-    let effects = rows.kept_effects();
+    let actions = kept_actions(&action_rows);
+    let effects = kept_effects(&effect_rows);
     println!(rt; "entries kept: {actions} and {effects}")
 }
 
@@ -60,9 +62,10 @@ pub fn back(rt: &HostRuntime) -> io::Result<()> {
         return println!(rt; "nothing");
     };
     let mut out = [0u8; 256];
-    let mut rows = Rows::new();
-    let mut actions = Filled::over(&mut rows.actions, 64);
-    let mut effects = Filled::over(&mut rows.effects, 512);
+    let mut action_rows = [ROW; 64];
+    let mut effect_rows = [CHANGE; 512];
+    let mut actions = Filled::over(&mut action_rows, 64);
+    let mut effects = Filled::over(&mut effect_rows, 512);
     match read_again(&problem, &mut out, &mut actions, &mut effects) {
         Some(taken) => show_taken(rt, taken, actions.len(), effects.len()),
         None => println!(rt; "nothing"),

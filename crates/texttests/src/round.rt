@@ -2,7 +2,7 @@ ghost use Rattle.std.specs.Prelude.{◌≡◌, ℕ, ◌≤◌, List, length, tak
 ghost use Rattle.text.specs.Texts.{Contents, contents, contents_of, Valid, problem_text, Begins};
 ghost use Rattle.text.specs.Calls.{Roomy, gotten};
 
-use crate::rows::Rows;
+use crate::rows::{CHANGE, ROW};
 use problem::{ActionRow, EffectRow, Problem};
 use sets::Filled;
 use text::{Taken, read, write_problem};
@@ -13,9 +13,10 @@ pub fn write_again(text: &[u8], out: &mut [u8]) -> Option<usize>
         ((c : Contents) (n : ℕ) → Valid c → Begins text.now n c → n ≤ length out.old → ⊥)
         (λ n. (n ≤ length text.now) × (take n out.new ≡ take n text.now)) }
 {
-    let mut rows = Rows::new();
-    let mut actions = Filled::over(&mut rows.actions, 64);
-    let mut effects = Filled::over(&mut rows.effects, 512);
+    let mut action_rows = [ROW; 64];
+    let mut effect_rows = [CHANGE; 512];
+    let mut actions = Filled::over(&mut action_rows, 64);
+    let mut effects = Filled::over(&mut effect_rows, 512);
     let taken = read(text, &mut actions, &mut effects).ok()?;
     let problem = taken.problem(actions.entries(), effects.entries()).ok()?;
     write_problem(&problem, out).ok()

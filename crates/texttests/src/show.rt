@@ -1,4 +1,4 @@
-use crate::rows::Rows;
+use crate::rows::{CHANGE, ROW};
 use problem::{Goal, Question};
 use sets::Filled;
 use std::io;
@@ -48,9 +48,10 @@ pub fn show_outcome(
 
 // Reads a text and says what is found.
 pub fn show(rt: &HostRuntime, text: &[u8]) -> io::Result<()> {
-    let mut rows = Rows::new();
-    let mut actions = Filled::over(&mut rows.actions, 64);
-    let mut effects = Filled::over(&mut rows.effects, 512);
+    let mut action_rows = [ROW; 64];
+    let mut effect_rows = [CHANGE; 512];
+    let mut actions = Filled::over(&mut action_rows, 64);
+    let mut effects = Filled::over(&mut effect_rows, 512);
     let outcome = read_input(text, &mut actions, &mut effects).map_err(ProgramFault::report);
     show_outcome(rt, outcome, actions.len(), effects.len())
 }
