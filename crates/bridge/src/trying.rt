@@ -1,22 +1,21 @@
 use problem::{ActionRow, EffectRow, Problem};
 use std::array::from_fn;
 
-// Sixteen actions leave one another alone: each has four atoms of its own, and two effects, this one among them.
-fn effect_at(k: usize) -> EffectRow {
-    let own = 4 * (k / 2 % 16) as u32;
-    if k % 2 == 0 {
+// Sixteen actions leave one another alone: each has four atoms of its own, and two effects.
+fn effects_of(i: usize) -> [EffectRow; 2] {
+    let own = 4 * (i % 16) as u32;
+    [
         EffectRow {
             condition: 0,
             add: 2 << own,
             delete: 0,
-        }
-    } else {
+        },
         EffectRow {
             condition: 1 << own,
             add: 4 << own,
             delete: 8 << own,
-        }
-    }
+        },
+    ]
 }
 
 // Tries so many firm steps of `width` actions, and adds up where they end.
@@ -42,8 +41,8 @@ pub extern "C" fn bridge_try(width: u32, rounds: u32) -> u64 {
         precondition: 1 << (4 * i as u32),
         first_effect: 2 * i,
     });
-    let effects: [EffectRow; 32] = from_fn(effect_at);
-    Problem::new(64, 4, 0, &actions, &effects).map_or(0, |problem| {
+    let effects: [[EffectRow; 2]; 16] = from_fn(effects_of);
+    Problem::new(64, 4, 0, &actions, effects.as_flattened()).map_or(0, |problem| {
         try_all(&problem, width, rounds)
     })
 }
