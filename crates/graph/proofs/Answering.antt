@@ -1,11 +1,11 @@
 -- What the table answers.
-use Rattle.std.proofs.Common.{◌≡◌, ℕ, suc, ◌+◌, ◌*◌, ◌<◌, ◌≤◌, Bool, ◌==◌, ◌&&◌, List, length, drop, ap, ◌∙◌, length-drop, true, false, T, ◌⊎◌, Some, None, Decides, Option, MatchOption, sym, refl, subst, inl, inr, add-one, arith}
+use Rattle.std.proofs.Common.{◌≡◌, ℕ, suc, ◌+◌, ◌*◌, ◌<◌, ◌≤◌, min, Bool, ◌==◌, ◌&&◌, List, length, drop, ap, ◌∙◌, length-drop, true, false, T, ◌⊎◌, Some, None, Decides, Option, MatchOption, sym, refl, subst, inl, inr, add-one, arith}
 use Rattle.std.specs.Str.{bytes_eq}
 use Rattle.std.proofs.lemmas.List.{length-take}
 use Rattle.std.proofs.lemmas.Grind.{same_number_lists}
 use Rattle.std.proofs.lemmas.Slice.Eq.{bytes_eq-Decides}
-use Rattle.std.proofs.lemmas.Bool.Decides.{Decides-eqb, Decides-and, Decides-like, Decides-not, Decides-or}
-use Rattle.sets.specs.Sets.{Has}
+use Rattle.std.proofs.lemmas.Bool.Decides.{Decides-eqb, Decides-and, Decides-like, Decides-not, Decides-or, same_from_decides}
+use Rattle.sets.specs.Sets.{Has, Marks}
 use Rattle.sets.proofs.Bits.{same_members, has?}
 use Rattle.problem.specs.Firm.{Task}
 use Rattle.problem.specs.Problems.{Fits}
@@ -22,11 +22,56 @@ pub t_true : (b : Bool) → T b → b ≡ true
 t_true true h = refl
 t_true false h = absurd h
 
+pub true_t : (b : Bool) → b ≡ true → T b
+true_t b e = subst T (sym e) tt
+
 module _ (g : Graph) (n a : ℕ) where
   -- what the table bars
   pub bars_decides : (b : ℕ) → Decides (bars_in g n a b) ((Has (facts_at g n) a → ⊥) ⊎ ((Has (facts_at g n) b → ⊥) ⊎ Has (row_at g n a) b))
   bars_decides b =
       Decides-or _ _ (Decides-not _ (Decides-eqb _ 1)) (Decides-or _ _ (Decides-not _ (Decides-eqb _ 1)) (Decides-eqb _ 1))
+
+  module _ (all : ℕ) (few : g.atoms ≤ 64) (m : Marks all (λ k. k < min g.atoms 64)) where
+    -- the row of an atom that is no fact
+    pub no_fact_row : (facts : ℕ) → facts ≡ facts_at g n → (Has facts a → ⊥) → Marks all (λ k. (k < g.atoms) × T (bars_in g n a k))
+    no_fact_row facts p none = record {
+      only = λ k h. (omega (arith, m.only k h), true_t _ ((bars_decides k).1 (inl (λ b. none (subst (λ (x : ℕ). Has x a) (sym p) b)))));
+      all = λ k h. m.all k (omega (arith, h.0));
+    }
+
+    by_row : (free r : ℕ) → Has (facts_at g n) a → Marks free (λ k. Has (facts_at g n) k × (Has (row_at g n a) k → ⊥))
+        → Marks r (λ k. Has all k × (Has free k → ⊥)) → Marks r (λ k. (k < g.atoms) × T (bars_in g n a k))
+    by_row free r fact f o = record {
+      only = λ k h.
+          let b = o.only k h in (
+            omega (arith, m.only k b.0),
+            true_t _ ((bars_decides k).1 (inr (elim (has? (facts_at g n) k) [
+              | no q ↦ inl q
+              | yes q ↦ inr (elim (has? (row_at g n a) k) [ yes z ↦ z | no z ↦ absurd (b.1 (f.all k (q, z))) ])
+            ]))),
+          );
+      all = λ k h. o.all k (
+        m.all k (omega (arith, h.0)),
+        λ q.
+            let b = f.only k q in
+            elim ((bars_decides k).0 (t_true _ h.1)) [
+              | inl z ↦ z fact
+              | inr z ↦ elim z [ inl y ↦ y b.0 | inr y ↦ b.1 y ]
+            ],
+      );
+    }
+
+    -- the row of a fact: all but the facts that are not exclusive with it
+    pub fact_row : (facts row free r : ℕ) → facts ≡ facts_at g n → row ≡ row_at g n a → Has facts a
+        → Marks free (λ k. Has facts k × (Has row k → ⊥)) → Marks r (λ k. Has all k × (Has free k → ⊥))
+        → Marks r (λ k. (k < g.atoms) × T (bars_in g n a k))
+    fact_row facts row free r p q fact f o = by_row free r (subst (λ (x : ℕ). Has x a) p fact)
+        (subst (λ (x : ℕ). Marks free (λ k. Has x k × (Has (row_at g n a) k → ⊥))) p (subst (λ (x : ℕ). Marks free (λ k. Has facts k × (Has x k → ⊥))) q f)) o
+
+-- a row and a pair never disagree
+pub row_pair : (m : ℕ) (P : ℕ → Bool) (r k : ℕ) (x : Bool) → Marks r (λ j. (j < m) × T (P j)) → k < m → Decides x (Has r k) → x ≡ P k
+row_pair m P r k x marks lt d =
+    same_from_decides x (P k) d ((λ e. marks.all k (lt, true_t _ e)), λ h. t_true _ (marks.only k h).1)
 
 -- two neighbours of the table
 module _ (g : Graph) (n : ℕ) where

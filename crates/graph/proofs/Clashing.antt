@@ -1,13 +1,16 @@
 -- Clashes by masks.
-use Rattle.std.proofs.Common.{◌≡◌, ℕ, ◌<◌, ◌⊎◌, List, map, get_or, sym, refl, ap, ◌∙◌, subst, inl, inr, arith}
+use Rattle.std.proofs.Common.{◌≡◌, ℕ, ◌+◌, ◌<◌, ◌⊎◌, List, length, map, set, get_or, sym, refl, ap, ◌∙◌, subst, inl, inr, arith}
+use native.Mathlib.Decide.{ℕ_discrete}
 use lib.Bits.{bit_or}
 use Rattle.std.proofs.Math.ListN.{get_or-map}
+use Rattle.std.proofs.lemmas.List.{get_or-set_same, get_or-set_other}
 use Rattle.sets.specs.Sets.{bit, Has, Marks}
 use Rattle.problem.specs.Firm.{Task}
 use Rattle.graph.specs.Levels.{Level, Node, action, noop, Needs, SureDelete, Hurts, Rivals, Clash}
 use Rattle.graph.specs.Turning.{row, Turned}
 use Rattle.graph.specs.Tables.{Uses, MoveOf, MovesOf, Touches, Meet, NodesOf, move_at}
 use Rattle.graph.specs.declared.table.Move.{Move}
+use Rattle.graph.specs.declared.table.Nodes.{Nodes}
 use Rattle.sets.proofs.Parts.{or_left, or_right, or_either}
 use Rattle.graph.proofs.RowSets.{one_is, one_has}
 
@@ -124,3 +127,13 @@ action_clashes t l moves ms k lt barred touched one others b th o r =
         λ c. elim (spoils_noop t l (action k) m.uses m.deletes barred p g c.1) [ inl a ↦ or_left m.deletes barred g a | inr a ↦ or_right m.deletes barred g a ],
       );
     }
+
+-- two rows that are filled together
+module _ (P : ℕ → Nodes → Type 0) (actions noops : List ℕ) (i : ℕ) (v : Nodes) where
+  pub fill_both : i < length actions → i < length noops
+      → ((k : ℕ) → k < i → P k (record { actions = row actions k; noops = row noops k })) → P i v
+      → (k : ℕ) → k < i + 1 → P k (record { actions = row (set actions i v.actions) k; noops = row (set noops i v.noops) k })
+  fill_both la ln f p k le = elim (ℕ_discrete k i) [
+    | yes e ↦ rw e (rw (get_or-set_same actions i v.actions 0 la, get_or-set_same noops i v.noops 0 ln) p)
+    | no ne ↦ rw (get_or-set_other actions i k v.actions 0 ne, get_or-set_other noops i k v.noops 0 ne) (f k (omega arith))
+  ]

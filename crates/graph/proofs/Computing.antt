@@ -12,11 +12,12 @@ use Rattle.problem.specs.Actions.{Among}
 use Rattle.problem.specs.Firm.{Task}
 use Rattle.problem.specs.declared.rows.EffectRow.{EffectRow}
 use Rattle.graph.specs.Levels.{Level, action, noop, next, Same, Together, Supports, Supported, Clash, Excludes}
+use Rattle.graph.specs.Turning.{row}
 use Rattle.graph.specs.Tables.{Meet, MovesOf, Touches, NodesOf, Stopped, Beaten, move_at}
 use Rattle.graph.specs.Graphs.{has}
 use Rattle.graph.specs.declared.table.Move.{Move}
 use Rattle.sets.proofs.Parts.{or_left, or_right, or_either, and_left, and_right, and_both}
-use Rattle.graph.proofs.RowSets.{met}
+use Rattle.graph.proofs.RowSets.{met, row_lt}
 use Rattle.graph.specs.Tables.{every}
 use Rattle.graph.proofs.Supporting.{apart_together, together_apart, supported}
 use Rattle.graph.proofs.Clashing.{touched_marks, action_clashes}
@@ -214,6 +215,11 @@ module _ (t : Task) (m : List Move) (ms : MovesOf t m) (rs : Rows t m) where
         | yes past ↦ absurd (not_in_none _ f (ap part (get_or_past m k _ (omega (arith, rs.long))) ∙ none) h)
         | no gt ↦ omega arith
       ]
+
+  row_marks : (rows : List ℕ) (set : ℕ) → length rows ≡ t.count → set < 2 ^ 64 → Marks (meeting t.count (row rows) set) (λ k. Meet (row rows k) set)
+  row_marks rows set e lt =
+      let q = meeting_marks t.count (row rows) set ms.few lt in
+      record { only = λ k h. (q.only k h).1; all = λ k h. q.all k (row_lt rows t.count k h.0 e h.1, h) }
 
   touch_marks : (u d w : ℕ) → u < 2 ^ 64 → d < 2 ^ 64 → w < 2 ^ 64 → Marks (touch t m u d w) (Touches m u d w)
   touch_marks u d w lu ld lw =

@@ -67,6 +67,9 @@ moves_of = record {
       (of_action 0 (lit< tt)) (of_action 1 (lit< tt)) (of_action 2 (lit< tt));
 }
 
+small_row : (rows : List ℕ) → ((k : ℕ) → k < 3 → row rows k < 2 ^ 64) → length rows ≡ 3 → (k : ℕ) → row rows k < 2 ^ 64
+small_row rows f e k = elim (dec_le 3 k) [ yes past ↦ rw (get_or_past rows k 0 (omega arith)) (lit< tt) | no below ↦ f k (omega arith) ]
+
 small_part : (part : Move → ℕ) → ((k : ℕ) → k < 3 → part (move_at moves k) < 2 ^ 64) → part (record { needs = 0; uses = 0; deletes = 0 }) < 2 ^ 64
     → (k : ℕ) → part (move_at moves k) < 2 ^ 64
 small_part part f none k = elim (dec_le 3 k) [ yes past ↦ rw (get_or_past moves k _ past) none | no below ↦ f k (omega arith) ]

@@ -1,17 +1,17 @@
 -- Sets, and rows of sets, member by member.
-use Rattle.std.proofs.Common.{◌≡◌, ℕ, zero, suc, ◌+◌, ◌^◌, ◌<◌, ◌≤◌, Bool, not, ◌⊎◌, List, length, map, get_or, replicate, Decides, sym, refl, ap, ◌∙◌, subst, inl, inr, arith}
+use Rattle.std.proofs.Common.{◌≡◌, ℕ, zero, suc, ◌+◌, ◌-◌, ◌^◌, ◌<◌, ◌≤◌, Bool, not, ◌⊎◌, List, length, map, set, get_or, replicate, Decides, sym, refl, ap, ◌∙◌, subst, inl, inr, arith}
 use native.Mathlib.Decide.{ℕ_discrete, dec_le}
 use denote.Param.Members.{Mut, Called}
 use lib.Bits.{bit_and, bit_or, and_le_r}
 use lib.Count.{count_trailing_zeros}
 use Rattle.std.specs.Array.{IsFromFnResult, IsFromFnResultFrom, IsMapOf, MapsFrom}
-use Rattle.std.proofs.lemmas.List.{get_or_past, get_or-map, length-map, same_lists}
+use Rattle.std.proofs.lemmas.List.{get_or_past, get_or-set_same, get_or-set_other, get_or-map, length-map, same_lists}
 use Rattle.std.proofs.lemmas.Bool.Decides.{Decides-like, Decides-not}
 use Rattle.sets.specs.Sets.{bit, Has, Inside, Apart, Lowest, Marks}
 use Rattle.sets.proofs.Bits.{bit_none, bit_digit, and_apart}
-use Rattle.sets.proofs.Members.{low_has, has_lt, lowest_one, not_in_none}
+use Rattle.sets.proofs.Members.{low_has, low_lowest, rest_marks, has_lt, lowest_one, not_in_none}
 use Rattle.sets.proofs.Parts.{or_left, or_right, or_either, and_both, and_left, and_right}
-use Rattle.graph.specs.Turning.{row}
+use Rattle.graph.specs.Turning.{row, Turned}
 use Rattle.graph.specs.Tables.{Meet}
 
 -- a set of one number
@@ -27,6 +27,44 @@ low_or_rest left low others k l m h = elim (ℕ_discrete k low) [
   | yes e ↦ inl e
   | no ne ↦ inr (m.all k (h, λ p. ne (lowest_one left k low p l)))
 ]
+
+-- the lowest of what is left, or the others, as they are worked out
+pub lowest_or_rest : (left k : ℕ) → 0 < left → left < 2 ^ 64 → Has left k → (k ≡ count_trailing_zeros 64 left) ⊎ Has (bit_and left (left - 1)) k
+lowest_or_rest left k p lt h = low_or_rest left (count_trailing_zeros 64 left) (bit_and left (left - 1)) k (low_lowest left p lt) (rest_marks left p lt) h
+
+-- one more row of the set: left is what is still to come
+module _ (rows : List ℕ) (of left all : ℕ) (p : 0 < left) (lt : left < 2 ^ 64) (sub : Inside left of) where
+  pub rest_in : Inside (bit_and left (left - 1)) of
+  rest_in k h = sub k (and_left left (left - 1) k h)
+
+  pub union_only : ((g : ℕ) → Has all g → (k : ℕ) × Has of k × Has (row rows k) g)
+      → (g : ℕ) → Has (bit_or all (row rows (count_trailing_zeros 64 left))) g → (k : ℕ) × Has of k × Has (row rows k) g
+  union_only f g h = elim (or_either all (row rows (count_trailing_zeros 64 left)) g h) [
+    | inl a ↦ f g a
+    | inr a ↦ (count_trailing_zeros 64 left, sub (count_trailing_zeros 64 left) (low_has left p lt), a)
+  ]
+
+  pub union_all : ((k g : ℕ) → Has of k → Has (row rows k) g → Has all g ⊎ Has left k)
+      → (k g : ℕ) → Has of k → Has (row rows k) g
+      → Has (bit_or all (row rows (count_trailing_zeros 64 left))) g ⊎ Has (bit_and left (left - 1)) k
+  union_all f k g hk hr = elim (f k g hk hr) [
+    | inl a ↦ inl (or_left all (row rows (count_trailing_zeros 64 left)) g a)
+    | inr a ↦ elim (lowest_or_rest left k p lt a) [
+      | inl e ↦ inl (or_right all (row rows (count_trailing_zeros 64 left)) g (subst (λ (x : ℕ). Has (row rows x) g) e hr))
+      | inr b ↦ inr b
+    ]
+  ]
+
+  pub common_each : ((k g : ℕ) → Has of k → Has all g → Has (row rows k) g ⊎ Has left k)
+      → (k g : ℕ) → Has of k → Has (bit_and all (row rows (count_trailing_zeros 64 left))) g
+      → Has (row rows k) g ⊎ Has (bit_and left (left - 1)) k
+  common_each f k g hk h = elim (f k g hk (and_left all (row rows (count_trailing_zeros 64 left)) g h)) [
+    | inl a ↦ inl a
+    | inr a ↦ elim (lowest_or_rest left k p lt a) [
+      | inl e ↦ inl (subst (λ (x : ℕ). Has (row rows x) g) (sym e) (and_right all (row rows (count_trailing_zeros 64 left)) g h))
+      | inr b ↦ inr b
+    ]
+  ]
 
 -- the union of the rows of those members of a set that are not left
 pub record United (rows : ℕ → ℕ) (of left all : ℕ) : Type 0 where
@@ -73,7 +111,7 @@ module _ (rows : ℕ → ℕ) (of left low others all : ℕ) (l : Lowest left lo
     kept = λ g h f. and_both all (rows low) g (s.kept g h f) (f low (s.inside low l.member));
   }
 
-none_left : (A : Type 0) (left k : ℕ) → left ≡ 0 → A ⊎ Has left k → A
+pub none_left : (A : Type 0) (left k : ℕ) → left ≡ 0 → A ⊎ Has left k → A
 none_left A left k e (inl a) = a
 none_left A left k e (inr h) = absurd (not_in_none left k e h)
 
@@ -104,6 +142,32 @@ has_decides set k one r ls lo m d =
     (λ n. let c = meets set one lo n in subst (λ (x : ℕ). Has set x) (one_is one k c.0 m c.2) c.1)
     (λ h apart. apart k h (one_has one k m (has_lt set k ls h)))
     (Decides-not r d)
+
+-- one row more: it meets the set, or it does not
+module _ (rows : List ℕ) (set all i : ℕ) (only : (k : ℕ) → Has all k → Meet (row rows k) set)
+    (each : (k : ℕ) → k < i → Meet (row rows k) set → Has all k) where
+  pub meeting_more : (one more : ℕ) → Marks one (λ k. (k ≡ i) × (k < 64)) → i < 64 → more ≡ bit_or all one → Meet (row rows i) set
+      → ((k : ℕ) → Has more k → Meet (row rows k) set) × ((k : ℕ) → k < i + 1 → Meet (row rows k) set → Has more k)
+  meeting_more one more m lt e here = (
+    (λ k h. elim (or_either all one k (subst (λ (x : ℕ). Has x k) e h)) [
+      | inl a ↦ only k a
+      | inr a ↦ subst (λ (x : ℕ). Meet (row rows x) set) (sym (one_is one i k m a)) here
+    ]),
+    λ k le h. subst (λ (x : ℕ). Has x k) (sym e) (elim (ℕ_discrete k i) [
+      | yes q ↦ or_right all one k (subst (λ (x : ℕ). Has one x) (sym q) (one_has one i m lt))
+      | no n ↦ or_left all one k (each k (omega arith) h)
+    ]),
+  )
+
+  pub meeting_same : (more : ℕ) → more ≡ all → (Meet (row rows i) set → ⊥)
+      → ((k : ℕ) → Has more k → Meet (row rows k) set) × ((k : ℕ) → k < i + 1 → Meet (row rows k) set → Has more k)
+  meeting_same more e n = (
+    (λ k h. only k (subst (λ (x : ℕ). Has x k) e h)),
+    λ k le h. subst (λ (x : ℕ). Has x k) (sym e) (elim (ℕ_discrete k i) [
+      | yes q ↦ absurd (n (subst (λ (x : ℕ). Meet (row rows x) set) q h))
+      | no ne ↦ each k (omega arith) h
+    ]),
+  )
 
 -- the numbers below i whose rows have a member
 pub record Column (rows : List ℕ) (f i all : ℕ) : Type 0 where
@@ -179,6 +243,17 @@ module _ {F A B : Type 0} (g : Mut F (A × Unit {0}) B) (f : F) (part : A → B)
       same_lists ys (map part xs) (omega (arith, r.long, length-map xs part))
       (λ k e lt. mapped_from xs ys n 0 r.each k none e (omega arith) (omega (arith, r.long)) ∙ sym (get_or-map part xs k none e (omega (arith, r.long))))
 
+-- rows that are filled one after the other
+module _ (P : ℕ → ℕ → Type 0) (rows : List ℕ) (i v : ℕ) where
+  pub fill_more : i < length rows → ((k : ℕ) → k < i → P k (row rows k)) → P i v → (k : ℕ) → k < i + 1 → P k (row (set rows i v) k)
+  fill_more lt f p k le = elim (ℕ_discrete k i) [
+    | yes e ↦ subst (λ (x : ℕ). P x (row (set rows i v) x)) (sym e) (subst (P i) (sym (get_or-set_same rows i v 0 lt)) p)
+    | no ne ↦ subst (P k) (sym (get_or-set_other rows i k v 0 ne)) (f k (omega arith))
+  ]
+
+pub rest_empty : (rows : List ℕ) (i v : ℕ) → ((k : ℕ) → i ≤ k → row rows k ≡ 0) → (k : ℕ) → i + 1 ≤ k → row (set rows i v) k ≡ 0
+rest_empty rows i v f k le = get_or-set_other rows i k v 0 (λ e. omega arith) ∙ f k (omega arith)
+
 pub no_rows : (n k : ℕ) → row (replicate n 0) k ≡ 0
 no_rows zero k = refl
 no_rows (suc n) zero = refl
@@ -193,3 +268,10 @@ turned_row rows r f m k = same_digits (bit r k) (bit (row rows k) f) (bit_digit 
     same_digits zero (suc y) lx ly p q = absurd (let z : ⊥ = omega (arith, q (omega arith)) in z)
     same_digits (suc x) zero lx ly p q = absurd (let z : ⊥ = omega (arith, p (omega arith)) in z)
     same_digits (suc x) (suc y) lx ly p q = omega arith
+
+-- the union of the rows of a set, turned: the rows that meet it
+pub turned_marks : (others rows : List ℕ) (r set : ℕ) → Turned others rows → Marks r (λ j. (f : ℕ) × Has set f × Has (row others f) j) → Marks r (λ j. Meet (row rows j) set)
+turned_marks others rows r set e m = record {
+  only = λ j h. let c = m.only j h in (c.0, sym (e c.0 j) ∙ c.2, c.1);
+  all = λ j h. m.all j (h.0, h.2, e h.0 j ∙ h.1);
+}

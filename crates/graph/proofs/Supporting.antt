@@ -1,8 +1,8 @@
 -- The atoms that an action supports, effect by effect.
-use Rattle.std.proofs.Common.{◌≡◌, ℕ, zero, suc, ◌+◌, ◌<◌, ◌⊎◌, List, [], ◌∷◌, length, drop, sym, refl, ap, subst, inl, inr, le_of_suc-le-suc, arith}
+use Rattle.std.proofs.Common.{◌≡◌, ℕ, zero, suc, ◌+◌, ◌<◌, ◌≤◌, ◌⊎◌, List, [], ◌∷◌, length, drop, sym, refl, ap, subst, inl, inr, le_of_suc-le-suc, arith}
 use mathlib.Core.Path.{transport}
 use lib.Bits.{bit_or}
-use Rattle.std.proofs.lemmas.List.{drop_more}
+use Rattle.std.proofs.lemmas.List.{drop_more, drop_all}
 use Rattle.sets.specs.Sets.{Has, Apart, Marks}
 use Rattle.problem.specs.Rows.{effect_at}
 use Rattle.sets.proofs.Members.{not_in_none}
@@ -27,6 +27,9 @@ among_at (e ∷ es) (suc i) h = inr (among_at es i (le_of_suc-le-suc h))
 
 among_more : (es : List EffectRow) (i : ℕ) (e : EffectRow) → i < length es → Among e (drop i es) → (e ≡ effect_at es i) ⊎ Among e (drop (i + 1) es)
 among_more es i e h a = transport (ap (Among e) (drop_more es i _ h)) a
+
+pub among_none : (es : List EffectRow) (i : ℕ) (e : EffectRow) → length es ≤ i → Among e (drop i es) → ⊥
+among_none es i e h a = transport (ap (Among e) (drop_all i es h)) a
 
 -- the union of the parts of those of the first i effects of which Q holds
 pub record Counted (Q : EffectRow → Type 0) (part : EffectRow → ℕ) (es : List EffectRow) (i all : ℕ) : Type 0 where
@@ -64,6 +67,18 @@ module _ (Q : EffectRow → Type 0) (part : EffectRow → ℕ) (es : List Effect
 
 pub counted_none : (Q : EffectRow → Type 0) (part : EffectRow → ℕ) (es : List EffectRow) → Counted Q part es 0 0
 counted_none Q part es = record { only = λ f h. absurd (not_in_none 0 f refl h); each = λ e f a m q. inr a }
+
+left_of_or : (A B : Type 0) → (B → ⊥) → A ⊎ B → A
+left_of_or A B n (inl a) = a
+left_of_or A B n (inr b) = absurd (n b)
+
+-- all of them
+pub counted_all : (Q : EffectRow → Type 0) (part : EffectRow → ℕ) (es : List EffectRow) (i all : ℕ) → length es ≤ i → Counted Q part es i all
+    → Marks all (λ f. (e : EffectRow) × Among e es × Has (part e) f × Q e)
+counted_all Q part es i all le c = record {
+  only = c.only;
+  all = λ f h. left_of_or _ _ (among_none es i h.0 le) (c.each h.0 f h.1 h.2 h.3);
+}
 
 -- what an action supports
 pub supported : (t : Task) (l : Level) (k pre : ℕ) (es : List EffectRow) (all : ℕ) → ((e : EffectRow) → Among e es → k < t.count) → pre ≡ (t.at k).precondition → es ≡ (t.at k).effects

@@ -27,6 +27,16 @@ pub record Explored (t : Task) (g : Goal) (limit most : ℕ) (tree : Tree) (next
   pub unmet : (i : ℕ) → i < next → Meets g (entry (rows_of tree) i).state → ⊥
 
 module _ (t : Task) (g : Goal) (limit most : ℕ) where
+  pub explored_none : (tree : Tree) → Growing t limit most tree 0 → Explored t g limit most tree 0
+  explored_none tree w = record {
+    sound = w.sound;
+    some = w.known;
+    reaches = omega arith;
+    ahead = λ _. w.ahead;
+    followed = λ i lt. absurd (let z : ⊥ = omega arith in z);
+    unmet = λ i lt. absurd (let z : ⊥ = omega arith in z);
+  }
+
   module _ (a : Tree) (next : ℕ) (x : Explored t g limit most a next) where
     pub explored_growing : next < length (rows_of a) → Growing t limit most a next
     explored_growing lt = record { sound = x.sound; known = lt; ahead = x.ahead lt }

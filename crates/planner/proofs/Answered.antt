@@ -1,5 +1,6 @@
 -- What plan answers, from how its search ended.
-use Rattle.std.proofs.Common.{◌≡◌, ℕ, ◌+◌, ◌-◌, ◌≤◌, List, length, Ok, Err, refl, arith}
+use Rattle.std.proofs.Common.{◌≡◌, ℕ, ◌+◌, ◌-◌, ◌≤◌, List, length, Ok, Err, refl, inl, arith}
+use Rattle.sets.specs.Sets.{Within}
 use Rattle.problem.specs.Firm.{Task}
 use Rattle.problem.specs.declared.refusal.Refusal.{Refusal}
 use Rattle.store.specs.Stores.{Meaning}
@@ -9,8 +10,13 @@ use Rattle.claim.specs.Turns.{Declines, Passes, plan_checks, Searched, report, A
 use Rattle.claim.specs.declared.outcome.Outcome.{Outcome}
 use Rattle.claim.specs.declared.outcome.Outcome.TheVariants.{Plan, Never, NotWithin, Spent}
 use Rattle.claim.proofs.Searching.{kept_grows, passed_grows}
+use Rattle.claim.proofs.Turning.{named}
 use Rattle.planner.specs.Endings.{Ran}
 use Rattle.planner.specs.declared.ending.Ending.{Ending}
+
+-- the checks passed: need names atoms of the task
+pub need_within : (t : Task) (m : Meaning) (a : Question) (room : ℕ) → Passes (plan_checks t m a room) → Within t.atoms a.goal.need
+need_within t m a room x k h = named t.atoms a.goal x.0 k (inl h)
 
 module _ {t : Task} {v : View} {a : Question} {m m' : Meaning} where
   -- the counts of the store only grow

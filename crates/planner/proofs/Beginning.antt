@@ -29,24 +29,29 @@ pub begins_some : {A : Type 0} (P : Type 0) (Q : A → Type 0) (o : Option A) �
 begins_some P Q None h full = absurd (full h)
 begins_some P Q (Some x) h full = refl
 
--- the path with one more position
-module _ (t : Task) (p : Path) (q : Position) (step : ℕ) (ns : List Node) (part : Part) (shallow : p.depth < 32) (x : Shape t p)
-    (long : length ns ≡ length p.nodes) (begins : Begins t q.goal p.nodes ns p.len part) where
-  abbrev frame : Frame
-  frame = record { position = q; step = step; base = p.len }
-
+-- work begins with one node, on any goal
+module _ (t : Task) (p : Path) (g : Goal) (ns : List Node) (part : Part) (begins : Begins t g p.nodes ns p.len part) where
   one : part.count ≡ 1
   one = sym (length_part ns part.start part.count) ∙ ap (λ (xs : List Node). length xs) begins.nodes
 
   pub one_few : part.count ≤ 129
   one_few = omega (arith, one)
 
+-- the path with one more position
+module _ (t : Task) (p : Path) (q : Position) (step : ℕ) (ns : List Node) (part : Part) (shallow : p.depth < 32) (x : Shape t p)
+    (long : length ns ≡ length p.nodes) (begins : Begins t q.goal p.nodes ns p.len part) where
+  abbrev frame : Frame
+  frame = record { position = q; step = step; base = p.len }
+
+  few : part.count ≤ 129
+  few = one_few t p q.goal ns part begins
+
   abbrev longer : Path
   longer = record { frames = set p.frames p.depth frame; depth = p.depth + 1; nodes = ns; len = p.len + part.count }
 
   longer_held : held_of longer ≡ record { position = target_of q; step = step; work = begins.root ∷ [] } ∷ held_of p
   longer_held =
-      opened_held p.depth p.frames p.nodes ns frame part.count (omega (arith, x.frames)) one_few begins.below x.sized
+      opened_held p.depth p.frames p.nodes ns frame part.count (omega (arith, x.frames)) few begins.below x.sized
       ∙ ap (λ (b : ℕ). record { position = target_of q; step = step; work = part_of ns b part.count } ∷ held_of p) (sym begins.from)
       ∙ ap (λ (w : List Node). record { position = target_of q; step = step; work = w } ∷ held_of p) begins.nodes
 
@@ -58,6 +63,6 @@ module _ (t : Task) (p : Path) (q : Position) (step : ℕ) (ns : List Node) (par
     frames = simp length-set x.frames;
     nodes = long ∙ x.nodes;
     deep = omega (arith, shallow);
-    sized = opened_sized p.depth p.frames p.nodes ns frame part.count (omega (arith, x.frames)) one_few begins.below x.sized;
+    sized = opened_sized p.depth p.frames p.nodes ns frame part.count (omega (arith, x.frames)) few begins.below x.sized;
     orderly = subst (λ (hs : List (Held (List Node))). AllOrderly t hs) (sym longer_held) (begins.is_root.orderly, x.orderly);
   }

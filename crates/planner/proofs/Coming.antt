@@ -3,9 +3,10 @@ use Rattle.std.proofs.Common.{◌≡◌, ℕ, ◌+◌, ◌-◌, ◌<◌, ◌≤�
 use Rattle.problem.specs.Firm.{Task}
 use Rattle.problem.specs.Runs.{Goal, Meets}
 use Rattle.problem.specs.Problems.{Fits}
+use Rattle.regression.specs.Stacks.{weights}
 use Rattle.regression.specs.declared.node.Node.{Node}
 use Rattle.regression.specs.declared.found.Due.{Due}
-use Rattle.store.specs.Positions.{Target, at}
+use Rattle.store.specs.Positions.{Target, at, Proper}
 use Rattle.store.specs.Stores.{Meaning}
 use Rattle.outlook.specs.Outlooks.{View}
 use Rattle.claim.specs.Search.{Question, GoalNames, Dropped}
@@ -13,7 +14,7 @@ use Rattle.claim.specs.Turns.{NamedBelow}
 use Rattle.claim.specs.declared.outcome.Outcome.TheVariants.{Plan}
 use Rattle.claim.proofs.Storing.{action_named}
 use Rattle.planner.specs.Paths.{Held, with_work, steps_of, Sought, Offered, Gave, Ended}
-use Rattle.planner.specs.Works.{waits, may, lowest_of, Offers, Idle, Took}
+use Rattle.planner.specs.Works.{waits, may, lowest_of, lowest_weight, Offers, Idle, Took}
 use Rattle.planner.proofs.Moves.{gave_dropped, gave_missed, gave_found, gave_offered, gave_nothing}
 
 same_steps : (h : Held (List Node)) (w : List Node) (hs : List (Held (List Node))) → steps_of (h ∷ hs) ≡ steps_of (with_work h w ∷ hs)
@@ -44,6 +45,19 @@ module _ (t : Task) (v : View) (l : ℕ) where
         | inr i ↦ action_named t fits i.0 (one.1.allowed.known i.0 i.1) k i.2
       ] in
       ((λ k h. all k (inl h)), λ k h. all k (inr h))
+
+  -- what is given below a position of the task is one of the task
+  gave_placed : Fits t → (q : Target) (w w' : List Node) (step : ℕ) (g : Goal) → 1 ≤ l → l + 1 ≡ q.level → Proper q × NamedBelow t.atoms q.goal
+      → Gave (waits t) may t v l q.goal w step g w' → Proper (at l g) × NamedBelow t.atoms g
+  gave_placed fits q w w' step g le e placed x =
+      (record { ranked = (le, omega (arith, placed.0.ranked.1, e)); apart = x.apart }, gave_named fits q w w' step g placed.1 x)
+
+  pub took_placed : Fits t → (hs hs' : List (Held (List Node))) (due : Due) → 1 ≤ l → (lowest_of hs).level ≡ l + 1
+      → Proper (lowest_of hs) × NamedBelow t.atoms (lowest_of hs).goal
+      → Took t v hs (Some due) hs' → Proper (at l due.region) × NamedBelow t.atoms due.region
+  took_placed fits [] hs' due le e placed x = absurd x
+  took_placed fits (h ∷ hs) hs' due le e placed x =
+      gave_placed fits h.position h.work x.0 due.step due.region le (sym e) placed (gave_below h due x.0 e x.2)
 
   pub took_named : Fits t → (hs hs' : List (Held (List Node))) (due : Due) (q : Target) → q ≡ at l due.region → (lowest_of hs).level ≡ l + 1
       → NamedBelow t.atoms (lowest_of hs).goal → Took t v hs (Some due) hs' → NamedBelow t.atoms q.goal
@@ -99,3 +113,7 @@ module _ (t : Task) (v : View) (l : ℕ) where
   pub took_lowest : (hs hs' : List (Held (List Node))) (due : Due) → Took t v hs (Some due) hs' → lowest_of hs' ≡ lowest_of hs
   took_lowest [] hs' due x = absurd x
   took_lowest (h ∷ hs) hs' due x = ap lowest_of x.1
+
+  pub took_less : (hs hs' : List (Held (List Node))) (due : Due) → Took t v hs (Some due) hs' → lowest_weight hs' < lowest_weight hs
+  took_less [] hs' due x = absurd x
+  took_less (h ∷ hs) hs' due x = subst (λ (ys : List (Held (List Node))). lowest_weight ys < weights h.work) (sym x.1) x.3

@@ -4,6 +4,7 @@ use Rattle.std.proofs.lemmas.List.{take-take}
 use Rattle.regression.specs.Stacks.{part_of}
 use Rattle.regression.specs.declared.node.Node.{Node}
 use Rattle.regression.proofs.Stacking.{part_kept}
+use Rattle.store.specs.Positions.{Target}
 use Rattle.planner.specs.Frames.{frame_at, way}
 use Rattle.planner.specs.Paths.{Held, steps_of}
 use Rattle.planner.specs.Works.{position, lowest_of, holding, held, held_of, Sized}
@@ -97,3 +98,9 @@ module _ (p q : Path) (deep : p.depth ≡ q.depth) (same : p.frames ≡ q.frames
   lowest_is =
       held_lowest_of p.depth p.frames p.nodes p.len (omega arith)
       ∙ ap₂ (λ (d : ℕ) (fs : List Frame). position (frame_at fs (d - 1))) deep same
+
+  pub lowest_level : (f : Frame) → f ≡ frame_at q.frames (q.depth - 1) → (lowest_of (held_of p)).level ≡ f.position.level - 1 + 1
+  lowest_level f is =
+      let low = (frame_at q.frames (q.depth - 1)).position.low in
+      let e : (frame_at q.frames (q.depth - 1)).position.level ≡ (frame_at q.frames (q.depth - 1)).position.level - 1 + 1 = omega (arith, low) in
+      ap (λ (r : Target). r.level) lowest_is ∙ e ∙ ap (λ (x : Frame). x.position.level - 1 + 1) (sym is)

@@ -1,6 +1,7 @@
 pub mod Reviewing
 pub mod Seeking
 pub mod Moves
+pub mod Closing
 pub mod Written
 pub mod Answered
 pub mod Holding

@@ -2,7 +2,7 @@
 use Rattle.std.proofs.Common.{◌≡◌, ℕ, ◌+◌, ◌-◌, ◌<◌, ◌≤◌, length, ap, subst, arith}
 use Rattle.problem.specs.Firm.{Task}
 use Rattle.problem.specs.Problems.{Fits}
-use Rattle.store.specs.Positions.{Target}
+use Rattle.store.specs.Positions.{Target, Proper}
 use Rattle.store.specs.Stores.{Meaning}
 use Rattle.outlook.specs.Outlooks.{View}
 use Rattle.claim.specs.Search.{Question}
@@ -12,7 +12,7 @@ use Rattle.planner.specs.Works.{position, lowest_of, held_of}
 use Rattle.planner.specs.Endings.{UnderWay}
 use Rattle.planner.specs.declared.path.Path.{Path}
 use Rattle.planner.proofs.Holding.{held_length, held_lowest_of}
-use Rattle.planner.proofs.Rounds.{short, list_room, held_few, lowest_deep, lowest_named, tell_room}
+use Rattle.planner.proofs.Rounds.{short, list_room, held_few, lowest_deep, lowest_named, lowest_placed, tell_room}
 
 module _ {t : Task} {v : View} {a : Question} {m : Meaning} {room n k : ℕ} {p : Path} (x : UnderWay t v a m room n p k) where
   few : (length (held_of p) ≤ n) × (n ≤ a.limit) × (k ≤ a.budget)
@@ -41,6 +41,11 @@ module _ {t : Task} {v : View} {a : Question} {m : Meaning} {room n k : ℕ} {p 
     module _ (fits : Fits t) where
       pub is_named : NamedBelow t.atoms (frame_at p.frames (p.depth - 1)).position.goal
       is_named = subst (λ (r : Target). NamedBelow t.atoms r.goal) here (lowest_named t v a x.start m n k fits room x.checks (held_of p) held_some x.sought)
+
+      pub is_placed : Proper (position (frame_at p.frames (p.depth - 1))) × NamedBelow t.atoms (frame_at p.frames (p.depth - 1)).position.goal
+      is_placed =
+          subst (λ (r : Target). Proper r × NamedBelow t.atoms r.goal) here
+          (lowest_placed t v a x.start m n k fits room x.checks (held_of p) held_some x.sought)
 
       pub can_tell : m.kept + m.passed < 16000000
       can_tell = tell_room t v a x.start m n k fits room x.checks (held_of p) held_some x.sought

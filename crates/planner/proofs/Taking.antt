@@ -81,6 +81,9 @@ module _ (t : Task) (v : View) (p : Path) (f : Frame) (is : f ≡ frame_at p.fra
       subst (λ (e : Frame). (e.base ≤ p.len) × (p.len ≤ e.base + 129) × Sized (p.depth - 1) p.frames e.base) (sym is)
       (sized_lowest p.depth p.frames p.len some x.sized)
 
+  pub based : f.base ≤ p.len
+  based = lowest_sized.0
+
   all_orderly : Orderly t goal before × AllOrderly t others
   all_orderly = subst (λ (hs : List (Held (List Node))). AllOrderly t hs) lowest_held x.orderly
 

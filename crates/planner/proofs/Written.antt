@@ -34,6 +34,10 @@ way_at (suc (suc d)) fs step (suc (suc i)) le lt =
     way_at (suc d) fs (frame_at fs (suc d)).step (suc i) (omega arith) (omega arith) ∙ ap (λ (k : ℕ). (frame_at fs k).step) (sym e)
 
 -- the first entry is written
+pub copy_first : (x : ℕ) (xs ys : List ℕ) → 0 < length ys → set ys 0 x ≡ take 1 (x ∷ xs) ++ drop 1 (set ys 0 x)
+copy_first x xs [] lt = absurd (let z : ⊥ = omega arith in z)
+copy_first x xs (y ∷ ys) lt = refl
+
 copy_all : (x : ℕ) (xs ys : List ℕ) (d : ℕ) → 1 ≤ d → length xs ≡ d - 1
     → take d (x ∷ xs) ++ drop d (set ys 0 x) ≡ (x ∷ xs) ++ drop d ys
 copy_all x xs ys d le e =

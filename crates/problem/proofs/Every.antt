@@ -1,14 +1,26 @@
 -- One turn of the walk through all orders of a step.
 use Rattle.std.proofs.Common.{◌≡◌, ℕ, ◌^◌, ◌<◌, List, [], ◌∷◌, Some, sym, refl, subst, subst₂, arith}
 use native.Mathlib.Decide.{ℕ_discrete}
-use lib.Count.{ones}
-use Rattle.sets.proofs.Members.{ones_minus, minus_lt, not_in_none}
+use lib.Count.{ones, count_trailing_zeros}
+use Rattle.sets.proofs.Bits.{bit_digit, bit_minus}
+use Rattle.sets.proofs.Members.{ones_minus, low_lt, minus_lt, not_in_none, inside_lt}
 use Rattle.sets.specs.Sets.{Has, Inside, minus, Takes}
 use Rattle.sets.proofs.Walking.{took_in, left_in, others_left, left_is}
 use Rattle.problem.specs.Actions.{Action, result_of}
 use Rattle.problem.specs.Firm.{Turn, Runs}
 use Rattle.problem.specs.Orders.{Order, EveryOrder, EachFirst}
 use Rattle.problem.proofs.Listed.{some_order}
+
+-- the lowest of what is left to place
+module _ (left step : ℕ) (sub : Inside left step) (lt : step < 2 ^ 64) (ne : left ≡ 0 → ⊥) where
+  pub left_lt : left < 2 ^ 64
+  left_lt = inside_lt left step sub lt
+
+  pub left_pos : 0 < left
+  left_pos = omega arith
+
+  pub pick_lt : count_trailing_zeros 64 left < 64
+  pick_lt = low_lt left left_pos left_lt
 
 -- the next of what is left to place
 module _ (left step k t : ℕ) (sub : Inside left step) (h : Takes left (Some k) t) where
@@ -21,6 +33,9 @@ module _ (left step k t : ℕ) (sub : Inside left step) (h : Takes left (Some k)
   pub still_in : Inside t step
   still_in j g = sub j (left_in left k t h j g)
 
+pub minus_in : (step j : ℕ) → Inside (minus step j) step
+minus_in step j k h = omega (arith, h, bit_minus step j k, bit_digit step k)
+
 module _ (at : ℕ → Action) (s t step end : ℕ) where
   pub none_sound : step ≡ 0 → t ≡ end → EveryOrder at s t step end
   none_sound e q [] o = q
@@ -28,6 +43,9 @@ module _ (at : ℕ → Action) (s t step end : ℕ) where
 
   pub none_complete : step ≡ 0 → EveryOrder at s t step end → t ≡ end
   none_complete e f = f [] e
+
+  pub each_none : EachFirst at s t step step end
+  each_none k h no-k = absurd (no-k h)
 
   pub each_all : (left : ℕ) → left ≡ 0 → (step ≡ 0 → ⊥) → EachFirst at s t step left end → EveryOrder at s t step end
   each_all left e ne f [] o = absurd (ne o)

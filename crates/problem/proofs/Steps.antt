@@ -1,12 +1,12 @@
 -- One turn of the loops over an action's effects.
-use Rattle.std.proofs.Common.{MatchBool, ◌≡◌, ℕ, zero, suc, ◌+◌, ◌-◌, ◌<◌, ◌≤◌, Bool, true, false, cond, List, [], ◌∷◌, length, drop, Some, None, Decides, sym, refl, ap, ◌∙◌, subst, arith}
+use Rattle.std.proofs.Common.{MatchBool, ◌≡◌, ℕ, zero, suc, ◌+◌, ◌-◌, ◌<◌, ◌≤◌, Bool, true, false, cond, not, List, [], ◌∷◌, length, drop, Some, None, Decides, sym, refl, ap, ◌∙◌, subst, arith}
 use mathlib.Core.Bool.{beq}
 use Rattle.std.specs.List.{AllWithin, HoldsAt}
 use Rattle.std.specs.Borrow.{Bor}
 use native.Mathlib.Decide.{dec_le}
 use lib.Bits.{bit_or, or_zero_r}
-use Rattle.std.proofs.lemmas.List.{at_drop_more, at_drop_all, get_or_default}
-use Rattle.std.proofs.lemmas.Bool.{false≢true, eqb-true, eq-eqb, ne_eqb}
+use Rattle.std.proofs.lemmas.List.{at_drop_more, at_drop_all, drop_more, get_or_default}
+use Rattle.std.proofs.lemmas.Bool.{false≢true, eqb-true, eq-eqb, ne_eqb, both_ways}
 use Rattle.std.proofs.lemmas.Bool.Decides.{same_from_decides}
 use Rattle.sets.specs.Sets.{Inside}
 use Rattle.sets.specs.Search.{Holds, First, NextFitting}
@@ -85,6 +85,18 @@ module _ (part : EffectRow → ℕ) (s a from acc to : ℕ) (es rows : List Effe
   pub gather_no_more : NextFitting (λ x. Inside x.condition a) rows from None to → acc ≡ gather part s es
   gather_no_more h = gather_all part s es acc from inv (rw (← p, ← r) h)
 
+pub beq_apart : (x y : Bool) → not (beq x y) ≡ true → x ≡ y → ⊥
+beq_apart true true e = λ _. both_ways false refl e
+beq_apart true false e = λ p. both_ways true (p) refl
+beq_apart false true e = λ p. both_ways true (sym p) refl
+beq_apart false false e = λ _. both_ways false refl e
+
+pub beq_same : (x y : Bool) → not (beq x y) ≡ false → x ≡ y
+beq_same true true e = refl
+beq_same true false e = e
+beq_same false true e = sym e
+beq_same false false e = refl
+
 pub eqb_same : (x y : Bool) → beq x y ≡ true → x ≡ y
 eqb_same true true e = refl
 eqb_same true false e = sym e
@@ -94,6 +106,11 @@ eqb_same false false e = refl
 pub same_eqb : (x y : Bool) → x ≡ y → beq x y ≡ true
 same_eqb true y e = rw (← e) refl
 same_eqb false y e = rw (← e) refl
+
+-- what is left of the effects fires alike where its first does and the others do
+pub alike_more : (s t : ℕ) (es : List EffectRow) (i : ℕ) → i < length es
+    → FireAlike (drop i es) s t ≡ ((fires s (effect_at es i) ≡ fires t (effect_at es i)) × FireAlike (drop (i + 1) es) s t)
+alike_more s t es i h = ap (λ l. FireAlike l s t) (drop_more es i _ h)
 
 -- what the two tests of an effect say of its firing
 module _ (s t : ℕ) (e : EffectRow) (x y : Bool) (p : Decides x (Fits s e)) (q : Decides y (Fits t e)) where

@@ -1,7 +1,8 @@
 -- What is asked about one action concerns the step.
-use Rattle.std.proofs.Common.{◌≡◌, ℕ, ◌^◌, ◌≢◌, ◌⊎◌, sym, ap, ◌∙◌, subst, inl, inr}
+use Rattle.std.proofs.Common.{◌≡◌, ℕ, ◌^◌, ◌≢◌, ◌⊎◌, List, sym, ap, ◌∙◌, subst, subst₂, inl, inr}
 use Rattle.sets.specs.Sets.{Has, Inside, minus}
 use Rattle.problem.specs.Actions.{Action}
+use Rattle.problem.specs.declared.rows.EffectRow.{EffectRow}
 use Rattle.problem.proofs.Listed.{left_in, left_other}
 use Rattle.regression.specs.Spans.{Unhurt, UnhurtBy, RestAll, Fine}
 use Rattle.regression.specs.Matters.{Rubs, Stirred, Rubbed, Concerns}
@@ -47,6 +48,21 @@ module _ (at : ℕ → Action) (step i : ℕ) (hi-in : Has step i) where
       ),
     )
   ]
+
+  module _ (lo hi others : ℕ) (eo : others ≡ Others) where
+    -- what the others do, named by the step
+    pub unhurt_concerns : (k : ℕ) → k ≡ i → (v : Verdict) → Judged lo hi (UnhurtBy at k others) (Rubbed at k others) v
+        → Judged lo hi (UnhurtBy at i Others) (Concerns at step) v
+    unhurt_concerns k ek v j =
+        judged_named lo hi (UnhurtBy at i Others) (Rubbed at i Others) (Concerns at step) rubbed_concerns v
+        (subst₂ (λ (x y : ℕ). Judged lo hi (UnhurtBy at x y) (Rubbed at x y) v) ek eo j)
+
+    rest_concerns : (es : List EffectRow) → es ≡ (at i).effects → (v : Verdict) → Judged lo hi (RestAll at es others) (Stirred at es others) v
+        → Judged lo hi (RestAll at (at i).effects Others) (Concerns at step) v
+    rest_concerns es ee v j =
+        judged_named lo hi (RestAll at (at i).effects Others) (Stirred at (at i).effects Others) (Concerns at step) stirred_concerns v
+        (subst (λ (y : ℕ). Judged lo hi (RestAll at (at i).effects y) (Stirred at (at i).effects y) v) eo
+        (subst (λ (y : List EffectRow). Judged lo hi (RestAll at y others) (Stirred at y others) v) ee j))
 
   module _ (lo hi : ℕ) where
     -- the verdicts on what each of the others does are one on what they do

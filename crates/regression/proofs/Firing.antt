@@ -1,6 +1,7 @@
 -- What effects do in the states between two masks, and what is open of their conditions.
 use Rattle.std.proofs.Common.{◌≡◌, ℕ, Bool, true, false, cond, T, eqb, ◌⊎◌, List, sym, refl, subst, inl, inr, eqb→eq}
 use lib.Bits.{bit_and, bit_or}
+use Rattle.std.proofs.lemmas.Bool.{ne_eqb}
 use Rattle.sets.specs.Sets.{Has, Inside, minus}
 use Rattle.sets.proofs.Bits.{has?}
 use Rattle.sets.proofs.Members.{not_in_none}
@@ -13,6 +14,9 @@ use Rattle.regression.proofs.Masks.{nothing, minus_has, minus_from, minus_not, s
 
 pub cond_zero : (x a b : ℕ) → x ≡ 0 → cond (eqb x 0) a b ≡ a
 cond_zero x a b e = rw e refl
+
+pub cond_other : (x a b : ℕ) → (x ≡ 0 → ⊥) → cond (eqb x 0) a b ≡ b
+cond_other x a b n = rw (ne_eqb x 0 n) refl
 
 -- ---- more fires in a larger state
 

@@ -11,7 +11,7 @@ use Rattle.std.specs.Bool.{IsTrue, then_some}
 use Rattle.std.proofs.Math.Facts.{yes_eqb}
 use Rattle.std.specs.Option.{option_map, IfSome, IsSome, IsSomeAnd}
 use Rattle.std.specs.Iterator.Runs.{SomeRun, YieldsRefsInOrder, AllItemsGive, IsFirstToGive}
-use Rattle.sets.specs.Sets.{Has}
+use Rattle.sets.specs.Sets.{Has, Inside}
 use Rattle.problem.specs.Actions.{Action}
 use Rattle.regression.specs.Doings.{Does, row_in, Tells}
 use Rattle.regression.specs.declared.doing.Doing.{Doing}
@@ -62,6 +62,19 @@ module _ (at : ℕ → Action) (lo hi : ℕ) (In In' : ℕ → Type 0) (k : ℕ)
             other r n ∙ f.free r (omega arith) l;
       }
 
+-- and each of the first `count` rows is there
+abbrev pub Full : ℕ → List (Option Doing) → Type 0
+Full count rows = (r : ℕ) → r < count → (d : Doing) × (row_in rows r ≡ Some d)
+
+pub full_none : (rows : List (Option Doing)) → Full 0 rows
+full_none rows r h = absurd (let z : ⊥ = omega arith in z)
+
+pub full_more : (count : ℕ) (rows : List (Option Doing)) (one : Doing) → count < length rows → Full count rows → Full (count + 1) (set rows count (Some one))
+full_more count rows one room f r h = elim (ℕ_discrete r count) [
+  | yes e ↦ (one, ap (row_in (set rows count (Some one))) e ∙ get_or-set_same rows count (Some one) _ room)
+  | no n ↦ (let q = f r (omega arith) in (q.0, get_or-set_other rows count r (Some one) _ n ∙ q.1))
+]
+
 -- all the rows
 pub filled_tells : (at : ℕ → Action) (step lo hi : ℕ) (In : ℕ → Type 0) (count : ℕ) (rows : List (Option Doing)) → ((i : ℕ) → Has step i → In i)
     → count ≤ 4 → Filled at lo hi In count rows → Tells at step lo hi rows
@@ -73,10 +86,18 @@ filled_tells at step lo hi In count rows all le f = record {
   ];
 }
 
+-- a part of a step is told of by the same rows
+pub tells_part : (at : ℕ → Action) (step part lo hi : ℕ) (rows : List (Option Doing)) → Inside part step → Tells at step lo hi rows → Tells at part lo hi rows
+tells_part at step part lo hi rows sub t = record { row = λ i h. t.row i (sub i h); does = t.does }
+
 -- the row found for an action of the step
-found_does : (at : ℕ → Action) (step lo hi : ℕ) (rows : List (Option Doing)) (r i : ℕ) (d : Doing) → Tells at step lo hi rows → r < 4
+pub found_does : (at : ℕ → Action) (step lo hi : ℕ) (rows : List (Option Doing)) (r i : ℕ) (d : Doing) → Tells at step lo hi rows → r < 4
     → row_in rows r ≡ Some d → d.action ≡ i → Does at lo hi i d
 found_does at step lo hi rows r i d t l e q = subst (λ (y : ℕ). Does at lo hi y d) q (t.does r d l e)
+
+-- a row speaks of its own action
+pub does_own : (at : ℕ → Action) (lo hi i : ℕ) (r : Doing) → Does at lo hi i r → Does at lo hi r.action r
+does_own at lo hi i r d = subst (λ (y : ℕ). Does at lo hi y r) (sym d.action) d
 
 -- a number is known from the bare fact that P holds
 number : {P : Type 0} {x y : ℕ} → ∥ P ∥₁ → (P → x ≡ y) → x ≡ y

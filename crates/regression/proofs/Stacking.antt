@@ -26,6 +26,9 @@ kept_treated t q D n f Drop e = λ s step pair l. absurd (e s step pair l)
 kept_treated t q D n f (Due p) e = (e, f)
 kept_treated t q D n f (Split a b) e = e
 
+pub dismissed_treated : (t : Task) (q : Goal) (D : Goal → Type 0) (n : Node) → D n.region → Treated t q D n Drop
+dismissed_treated t q D n d s step pair l = (n.region, d, l.meets)
+
 -- ---- the empty step
 
 -- what the empty step makes due is the goal itself
@@ -263,6 +266,12 @@ module _ (t : Task) (q : Goal) (D : Goal → Type 0) (before nodes : List Node) 
     }
 
 -- ---- where work begins
+
+pub part_one : (nodes : List Node) (start : ℕ) (x : Node) → start < length nodes → part_of (set nodes start x) start 1 ≡ x ∷ []
+unfolding join
+part_one nodes start x lt =
+    let e : start + 0 ≡ start = omega arith in
+    ap (λ (y : Node). join y []) (ap (node_in (set nodes start x)) e ∙ get_or-set_same nodes start x _ lt)
 
 -- a part below is as it was
 pub part_kept : (xs ys : List Node) (start base n : ℕ) → take start xs ≡ take start ys → base + n ≤ start → part_of xs base n ≡ part_of ys base n

@@ -86,6 +86,9 @@ low zero s p h = absurd (let z : ⊥ = omega arith in z)
 low (suc w) s p h =
     low_step w s (s % 2) (count_trailing_zeros w (s / 2)) refl p h (λ q. low w (s / 2) q (omega (arith, pow-suc 2 w)))
 
+pub low_lt : (s : ℕ) → 0 < s → s < 2 ^ 64 → count_trailing_zeros 64 s < 64
+low_lt s p h = (low 64 s p h).under_w
+
 pub low_has : (s : ℕ) → 0 < s → s < 2 ^ 64 → Has s (count_trailing_zeros 64 s)
 low_has s p h = (low 64 s p h).member
 

@@ -1,6 +1,7 @@
 -- What holds among the rows when one more is put behind them.
-use Rattle.std.proofs.Common.{◌≡◌, ℕ, Bool, ◌⊎◌, List, [], ◌∷◌, ◌++◌, length, is_some, Some, None, Decides, Option, sym, refl, subst, inl, inr, ⊎_elim, arith}
-use Rattle.std.proofs.lemmas.List.{length_push, get_or_push, get_or_append_left}
+use Rattle.std.proofs.Common.{◌≡◌, ℕ, min, Bool, ◌⊎◌, List, [], ◌∷◌, ◌++◌, length, take, is_some, Some, None, Decides, Option, sym, refl, ap, ◌∙◌, subst, inl, inr, ⊎_elim, arith}
+use native.Mathlib.Decide.{dec_le}
+use Rattle.std.proofs.lemmas.List.{length_push, get_or_push, get_or_append_left, take_all}
 use Rattle.std.proofs.lemmas.Bool.{cases_lt, false≢true}
 use Rattle.sets.specs.Search.{Somewhere, First}
 
@@ -26,3 +27,11 @@ module _ {E : Type 0} (P : E → Type 0) where
 
   pub found_decides : (rows xs : List E) (r : Option ℕ) (b : Bool) → rows ≡ xs → b ≡ is_some r → First P rows 0 r → Decides b (Somewhere P xs)
   found_decides rows xs r b e f h = rw (f, ← e) (first_decides rows r h)
+
+-- no more can be taken than there is
+pub take_min : {A : Type 0} (n : ℕ) (l : List A) → take (min n (length l)) l ≡ take n l
+take_min n l = elim (dec_le n (length l)) [
+  | yes le ↦ (let e : min n (length l) ≡ n = omega arith in ap (λ (x : ℕ). take x l) e)
+  | no gt ↦ (let e : min n (length l) ≡ length l = omega arith in
+      ap (λ (x : ℕ). take x l) e ∙ take_all (length l) l (omega arith) ∙ sym (take_all n l (omega arith)))
+]

@@ -1,8 +1,11 @@
 -- Texts written further, step by step.
-use Rattle.std.proofs.Common.{◌≡◌, ℕ, ◌+◌, ◌<◌, ◌≤◌, List, [], ◌++◌, length, get_or, take, drop, sym, refl, ap, ◌∙◌, add-zero, arith}
-use Rattle.std.proofs.lemmas.List.{length-append, append_assoc, take-append-drop, take_more, flat_map_more}
+use Rattle.std.proofs.Common.{◌≡◌, ℕ, ◌+◌, ◌-◌, ◌<◌, ◌≤◌, List, [], ◌++◌, length, get_or, take, drop, sym, refl, ap, ◌∙◌, subst, add-zero, arith}
+use Rattle.std.proofs.lemmas.List.{length-append, append_assoc, take-append-drop, take_more, flat_map_more, get_or-take, get_or-drop, length-take, length-drop}
+use Rattle.problem.specs.Rows.{begins, names_of, EffectsNamed}
+use Rattle.problem.specs.declared.rows.ActionRow.{ActionRow}
 use Rattle.problem.specs.Problems.{action_at}
 use Rattle.problem.specs.declared.rows.EffectRow.{EffectRow}
+use Rattle.sets.specs.Sets.{Within}
 use Rattle.text.specs.Bytes.{put}
 use Rattle.text.specs.Texts.{size_is, first_is, action_is, effect_is, end_is, item_text, Contents, actions_text, open_text, problem_text}
 use Rattle.text.specs.Writings.{Mark, started_mark, Wrote}
@@ -52,6 +55,18 @@ wrote_action t u p out out' w = (
 -- one effect more of a list
 pub effects_more : (es : List EffectRow) (i : ℕ) (d : EffectRow) → i < length es → effects_text (take (i + 1) es) ≡ effects_text (take i es) ++ item_text (effect_is (get_or es i d))
 effects_more es i d h = ap effects_text (take_more es i d h) ∙ sym (flat_map_more (λ e. item_text (effect_is e)) [] (take i es) (get_or es i d))
+
+-- a part of a list of effects names no other atoms
+part_named : (m : ℕ) (es : List EffectRow) (x b : ℕ) → EffectsNamed m es → EffectsNamed m (take x (drop b es))
+part_named m es x b n j h =
+    let l = length-take x (drop b es) in
+    let k = length-drop b es in
+    let i : j < x = omega arith in
+    subst (λ (e : EffectRow). Within m (names_of e)) (sym (get_or-take x (drop b es) j _ i ∙ get_or-drop b es j _)) (n (b + j) (omega arith))
+
+pub action_named : (m : ℕ) (rows : List ActionRow) (effects : List EffectRow) (k : ℕ) → EffectsNamed m effects → EffectsNamed m (action_at rows effects k).effects
+action_named m rows effects k n =
+    part_named m effects (begins rows (length effects) (k + 1) - begins rows (length effects) k) (begins rows (length effects) k) n
 
 -- the four parts of a whole text, written one after the other
 pub whole_put : (p : Contents) (len : ℕ) (out a b d e : List ℕ) (i j k : ℕ) → len ≡ 0 → length (problem_text p) ≤ length out

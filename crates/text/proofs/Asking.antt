@@ -1,14 +1,14 @@
 -- A question that was found.
-use Rattle.std.proofs.Common.{◌≡◌, ℕ, ◌<◌, List, ◌∷◌, ◌++◌, length, get_or, take, drop, sym, ap, ◌∙◌, subst, arith, Bor}
+use Rattle.std.proofs.Common.{◌≡◌, ℕ, ◌<◌, List, ◌∷◌, ◌++◌, length, get_or, take, drop, sym, refl, ap, ◌∙◌, subst, arith, Bor}
 use Rattle.std.specs.Int.Digits.{number_from_digits, AllBelowBase}
 use Rattle.std.proofs.lemmas.Int.Digits.{number_lt}
 use Rattle.std.proofs.ByRecursion.{All-take, All-drop, All-get_or}
 use Rattle.std.proofs.lemmas.List.{take_all, take-append-drop, length-take-le, length-drop, drop-drop, drop_more}
 use Rattle.text.specs.Bytes.{bytes_of, set_in, Stand}
-use Rattle.text.specs.Records.{Stands}
+use Rattle.text.specs.Records.{kind_of, Stands}
 use Rattle.text.specs.Inputs.{question_text, Asking}
 use Rattle.text.specs.declared.record.Record.{Record}
-use Rattle.text.specs.declared.record.Record.TheVariants.{Question}
+use Rattle.text.specs.declared.record.Record.TheVariants.{Size, First, Action, Effect, End, Question}
 use Rattle.text.specs.declared.record.Found.{Found}
 use Rattle.text.proofs.Numbers.{bytes_of_number}
 use Rattle.text.proofs.Items.{set_bytes, set_small}
@@ -45,3 +45,11 @@ asking text at f b need avoid budget u a s e n v w =
         omega (arith, (rw word at (number_lt 256 (take 4 (drop 17 b.now)) (All-take (λ d. d < 256) 4 (drop 17 b.now) (All-drop (λ d. d < 256) 17 b.now y))))),
       );
     }
+
+pub only_question : (r : Record) → kind_of r ≡ 6 → ((x : Bor (List ℕ)) → r ≡ Question x → ⊥) → ⊥
+only_question (Size b) k n = omega arith
+only_question (First b) k n = omega arith
+only_question (Action b) k n = omega arith
+only_question (Effect b) k n = omega arith
+only_question End k n = omega arith
+only_question (Question b) k n = n b refl

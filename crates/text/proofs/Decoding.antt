@@ -1,5 +1,5 @@
 -- A record that was found, as a record of a problem.
-use Rattle.std.proofs.Common.{◌≡◌, ℕ, ◌+◌, ◌<◌, ◌≤◌, List, length, get_or, Ok, Err, Result, sym, refl, ap, subst, inl, inr, arith, w8, Fits, Bor}
+use Rattle.std.proofs.Common.{◌≡◌, ℕ, ◌+◌, ◌<◌, ◌≤◌, List, ◌∷◌, length, get_or, Ok, Err, Result, sym, refl, ap, subst, inl, inr, arith, w8, Fits, Bor}
 use Rattle.std.specs.Int.Digits.{AllBelowBase}
 use Rattle.std.proofs.ByRecursion.{All-from_get_or}
 use Rattle.text.specs.Records.{kind_of, body_of, body_length, Stands, RecordAt}
@@ -36,16 +36,21 @@ pub record Decoded (text : List ℕ) (at next : ℕ) (r : Record) : Type 0 where
   pub kind : item_kind (item_in (kind_of r) (body_of r)) ≡ kind_of r
   pub after : at + length (item_text (item_in (kind_of r) (body_of r))) ≡ next
 
-pub decoded : (text : List ℕ) (at : ℕ) (f : Found) (r : Record) → ((i : ℕ) → Fits w8 (get_or text i 0)) → f.at ≡ at → Stands text f → f.record ≡ r → kind_of r ≤ 5 → Decoded text at f.next r
+pub decoded : (text : List ℕ) (at : ℕ) (f : Found) (r : Record) → AllBelowBase 256 text → f.at ≡ at → Stands text f → f.record ≡ r → kind_of r ≤ 5 → Decoded text at f.next r
 decoded text at f r u a s e h =
     let t : Stands text (record { at = at; «record» = r; next = f.next }) =
     subst (λ (x : Record). Stands text (record { at = at; «record» = x; next = f.next })) e (subst (λ (x : ℕ). Stands text (record { at = x; «record» = f.record; next = f.next })) a s) in
-    let i = item_there text at (kind_of r) (body_of r) (bytes_under text u) t.bytes (kind_known r) h t.size in
+    let i = item_there text at (kind_of r) (body_of r) u t.bytes (kind_known r) h t.size in
     record {
       reading = i.0;
       kind = i.1;
       after = omega (arith, t.next, t.size, body_long (item_in (kind_of r) (body_of r)), ap body_length i.1);
     }
+
+pub found_inside : (text : List ℕ) (f : Found) → Stands text f → (f.at < f.next) × (f.next ≤ length text)
+found_inside text f s =
+    let i = stand_inside text f.at (kind_of f.record ∷ body_of f.record) s.bytes (omega arith) in
+    (omega (arith, s.next), omega (arith, s.next))
 
 -- a record that does not fit
 pub misfit_reads : (text : List ℕ) (at : ℕ) (d : Draft) (i : Item) → Reading text at i → InPlace d.place (item_kind i)
@@ -58,6 +63,23 @@ pub goes_on : (text : List ℕ) (at n : ℕ) (d : Draft) (i : Item) → Reading 
     → (o : Outcome) → Reads text n (more d i) o → Reads text at d o
 goes_on text at n d i r k a e o rest = goes r k a (subst (λ (x : ℕ). Reads text x (more d i) o) (sym e) rest)
 
+-- a decoded action, effect or end
+pub action_read : (text : List ℕ) (at n p : ℕ) (b : Bor (List ℕ)) → Decoded text at n (Action b) → p ≡ set_in b.now 0 → Reading text at (action_is p) × (at + length (item_text (action_is p)) ≡ n)
+action_read text at n p b t e =
+    subst (λ (x : ℕ). Reading text at (action_is x) × (at + length (item_text (action_is x)) ≡ n)) (sym e) (t.reading, t.after)
+
+pub effect_read : (text : List ℕ) (at n : ℕ) (x : EffectRow) (b : Bor (List ℕ)) → Decoded text at n (Effect b) → x ≡ effect_in b.now → Reading text at (effect_is x) × (at + length (item_text (effect_is x)) ≡ n)
+effect_read text at n x b t e =
+    subst (λ (x : EffectRow). Reading text at (effect_is x) × (at + length (item_text (effect_is x)) ≡ n)) (sym e) (t.reading, t.after)
+
+pub only_end : (r : Record) → 3 ≤ kind_of r → kind_of r ≤ 5 → ((x : Bor (List ℕ)) → r ≡ Action x → ⊥) → ((x : Bor (List ℕ)) → r ≡ Effect x → ⊥) → r ≡ End
+only_end (Size b) l h a e = absurd (omega arith)
+only_end (First b) l h a e = absurd (omega arith)
+only_end (Action b) l h a e = absurd (a b refl)
+only_end (Effect b) l h a e = absurd (e b refl)
+only_end End l h a e = refl
+only_end (Question b) l h a e = absurd (omega arith)
+
 -- a first state, an action or an effect that was found, with the value read from its body
 module _ (text : List ℕ) (at : ℕ) (f : Found) (b : Bor (List ℕ)) (u : (i : ℕ) → Fits w8 (get_or text i 0)) (a : f.at ≡ at) (s : Stands text f) where
   -- where it stands, and the next record behind it
@@ -65,13 +87,13 @@ module _ (text : List ℕ) (at : ℕ) (f : Found) (b : Bor (List ℕ)) (u : (i :
   Here i = Reading text at i × (at + length (item_text i) ≡ f.next)
 
   pub first_found : (x : ℕ) → f.record ≡ First b → x ≡ set_in b.now 0 → Here (first_is x)
-  first_found x e v = let t = decoded text at f (First b) u a s e (omega arith) in subst (λ (y : ℕ). Here (first_is y)) (sym v) (t.reading, t.after)
+  first_found x e v = let t = decoded text at f (First b) (bytes_under text u) a s e (omega arith) in subst (λ (y : ℕ). Here (first_is y)) (sym v) (t.reading, t.after)
 
   pub action_found : (x : ℕ) → f.record ≡ Action b → x ≡ set_in b.now 0 → Here (action_is x)
-  action_found x e v = let t = decoded text at f (Action b) u a s e (omega arith) in subst (λ (y : ℕ). Here (action_is y)) (sym v) (t.reading, t.after)
+  action_found x e v = let t = decoded text at f (Action b) (bytes_under text u) a s e (omega arith) in subst (λ (y : ℕ). Here (action_is y)) (sym v) (t.reading, t.after)
 
   pub effect_found : (x : EffectRow) → f.record ≡ Effect b → x ≡ effect_in b.now → Here (effect_is x)
-  effect_found x e v = let t = decoded text at f (Effect b) u a s e (omega arith) in subst (λ (y : EffectRow). Here (effect_is y)) (sym v) (t.reading, t.after)
+  effect_found x e v = let t = decoded text at f (Effect b) (bytes_under text u) a s e (omega arith) in subst (λ (y : EffectRow). Here (effect_is y)) (sym v) (t.reading, t.after)
 
 -- what stands where the record layer finds no action and no effect
 pub halted_fault : (text : List ℕ) (at : ℕ) (r : Result Found RecordFault) → RecordAt text at r → ((f : Found) → r ≡ Ok f → ⊥) → (i : Item) → Reading text at i → ⊥

@@ -92,6 +92,9 @@ module _ (text : List ℕ) (c : Contents) (v : Valid c) (n : ℕ) (b : Begins te
   part : Place → ℕ → ℕ → Draft
   part p k j = record { place = p; contents = record { atoms = c.atoms; hands = c.hands; first = c.first; rows = take k c.rows; effects = take j c.effects } }
 
+  Below : ℕ → ℕ → Type 0
+  Below k j = (k ≤ length c.rows) × (j ≤ length c.effects)
+
   part_long : (p : Place) (k j : ℕ) → k ≤ length c.rows → length (part p k j).contents.rows ≡ k
   unfolding part
   part_long p k j h = length-take-le k c.rows h

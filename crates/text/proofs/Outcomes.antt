@@ -62,7 +62,7 @@ pick_no (yes p) x y n = absurd (n p)
 pick_no (no n) x y m = refl
 
 -- a kind in place is one of a problem's records
-place_between : (p : Place) (k : ℕ) → InPlace p k → (1 ≤ k) × (k ≤ 5)
+pub place_between : (p : Place) (k : ℕ) → InPlace p k → (1 ≤ k) × (k ≤ 5)
 place_between Start k i = (omega arith, omega arith)
 place_between Sized k i = (omega arith, omega arith)
 place_between Started k (inl i) = (omega arith, omega arith)

@@ -1,5 +1,5 @@
 -- A list that is filled entry by entry.
-use Rattle.std.proofs.Common.{◌≡◌, ℕ, ◌+◌, ◌<◌, ◌≤◌, Bool, true, false, cond, ltb, List, [], ◌∷◌, ◌++◌, length, drop, set, sym, ap, ◌∙◌, arith}
+use Rattle.std.proofs.Common.{◌≡◌, ℕ, ◌+◌, ◌<◌, ◌≤◌, Bool, true, false, cond, ltb, List, [], ◌∷◌, ◌++◌, length, drop, set, sym, refl, ap, ◌∙◌, arith}
 use Rattle.std.proofs.lemmas.Bool.{ltb-true, lt-ltb}
 use Rattle.std.proofs.lemmas.List.{length-set, length-take-le, take-append-drop, drop-set-lt, drop-drop}
 use Rattle.sets.specs.Lists.{rows_of, count_of, room_of, taken}
@@ -13,6 +13,9 @@ module _ {X : Type 0} where
     pub rest : drop (count_of after) (rows_of after) ≡ drop (count_of after) (rows_of before)
     pub room : room_of after ≡ room_of before
     pub lent : after.rows.ghost_name ≡ before.rows.ghost_name
+
+  pub kept_start : (f : Filled X) → count_of f ≡ 0 → Kept f f
+  kept_start f e = record { inside = omega arith; rest = refl; room = refl; lent = refl }
 
   same_drop : (m n : ℕ) (xs ys zs : List X) → m ≡ n → xs ≡ ys → drop n ys ≡ drop n zs → drop m xs ≡ drop m zs
   same_drop m n xs ys zs e f h = rw (e, f) h

@@ -1,6 +1,6 @@
-use Rattle.std.proofs.Common.{◌≡◌, ℕ, ◌+◌, ◌≤◌, List, ◌++◌, length, take, drop, sym, ap, ◌∙◌, arith}
+use Rattle.std.proofs.Common.{◌≡◌, ℕ, ◌+◌, ◌<◌, ◌≤◌, List, [], ◌∷◌, ◌++◌, length, take, drop, set, sym, refl, ap, ◌∙◌, add-one, arith}
 use borrow.Rule.Slice.PartMut.{put_mid}
-use Rattle.std.proofs.lemmas.List.{append_assoc, length-append, length-take-le, length-drop, drop-drop, take_at, drop_at}
+use Rattle.std.proofs.lemmas.List.{append_assoc, length-append, length-take-le, length-drop, drop-drop, take_at, drop_at, set_split}
 use Rattle.text.specs.Bytes.{put}
 
 -- a write to a part of a slice
@@ -37,6 +37,17 @@ put_put xs a b bs cs e h =
     ∙ drop-drop (length cs) (a + length bs) xs
     ∙ ap (λ n. drop n xs) (omega (arith, length-append bs cs)) in
     ap (λ l. l ++ (cs ++ drop (b + length cs) (put xs a bs))) t ∙ rw d (simp append_assoc)
+
+-- a write of one byte
+pub put_one : (xs : List ℕ) (i b : ℕ) → i < length xs → set xs i b ≡ put xs i (b ∷ [])
+unfolding put
+put_one xs i b h = set_split xs i b h ∙ rw add-one refl
+
+-- a byte right after a write
+pub put_more : (xs : List ℕ) (a i b : ℕ) (bs : List ℕ) → i ≡ a + length bs → i < length xs → set (put xs a bs) i b ≡ put xs a (bs ++ (b ∷ []))
+put_more xs a i b bs e h =
+    let k : a + length bs ≤ length xs = omega arith in
+    put_one (put xs a bs) i b (omega (arith, length_put xs a bs k)) ∙ put_put xs a i bs (b ∷ []) e k
 
 -- one write more, at the end of what was written
 pub put_on : (xs : List ℕ) {ys zs : List ℕ} (a : ℕ) {b : ℕ} (bs cs : List ℕ) → ys ≡ put xs a bs → b ≡ a + length bs → a + length bs ≤ length xs → zs ≡ put ys b cs → zs ≡ put xs a (bs ++ cs)

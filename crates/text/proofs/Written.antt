@@ -19,7 +19,7 @@ use Rattle.text.proofs.Items.{body_long}
 use Rattle.text.proofs.Drafts.{SoundAt, row_for, at_effect, drafted_sound, more_text, open_end, latest_action, latest_effect}
 
 -- a record is as long as the numbers say
-marked_len : (k : Mark) (i : Item) → (marked k i).len ≡ k.len + length (item_text i)
+pub marked_len : (k : Mark) (i : Item) → (marked k i).len ≡ k.len + length (item_text i)
 marked_len k (size_is m h) = refl
 marked_len k (first_is s) = omega (arith, length_bytes_of 8 s)
 marked_len k (action_is p) = omega (arith, length_bytes_of 8 p)

@@ -2,7 +2,7 @@ use Rattle.std.proofs.Common.{sym, subst, arith}
 use Rattle.std.proofs.lemmas.Result.{err_from_is_err_and}
 use Rattle.text.specs.Texts.{action_is, effect_is}
 use Rattle.text.specs.declared.checker.Tally.{Tally}
-use Rattle.text.proofs.Decoding.{decoded, action_found, effect_found}
+use Rattle.text.proofs.Decoding.{bytes_under, decoded, action_found, effect_found}
 use Rattle.text.proofs.Walking.{Walk, walk_start, walk_action, walk_effect, walk_misfit, walk_end}
 use Rattle.text.proofs.checker.check_rows.Goals as goal
 
@@ -32,7 +32,7 @@ returns-in-End c =
     let r = c.in_ok-found.ensures in
     let f = c.in_ok-found.found in
     let w = c.loop-found.invariant in
-    let t = decoded c.args.text.now c.loop-found.at f _ c.type_inv.text r.0 r.1 c.in-End.is (omega arith) in
+    let t = decoded c.args.text.now c.loop-found.at f _ (bytes_under _ c.type_inv.text) r.0 r.1 c.in-End.is (omega arith) in
     (w.rows, w.effects, walk_end c.args.text.now _ _ _ c.loop-found.at f.next c.loop-found.tally w t.reading (rw c.in-End.is at r.2) t.after)
 
 pub loop-found-preserved-in_ok-tally-in-Action : goal.loop-found-preserved-in_ok-tally-in-Action

@@ -11,7 +11,7 @@ pub overflow_add-self-2 : goal.overflow_add-self-2
 overflow_add-self-2 g c =
     let begins = rw (c.unwrap-part.ensures, c.problem.ensures) at c.begin_work.ensures in
     let lt : c.args.self.now.len < 4128 = room_for _ _ c.requires.shape c.requires.shallow in
-    let few : c.unwrap-part.result.count ≤ 129 = one_few _ _ c.args.position c.args.step _ _ c.requires.shallow c.requires.shape c.begin_work.auto.nodes begins in
+    let few : c.unwrap-part.result.count ≤ 129 = one_few _ c.args.self.now _ _ _ begins in
     search rules
 
 pub returns : goal.returns
