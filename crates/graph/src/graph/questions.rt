@@ -57,7 +57,9 @@ impl Graph {
         requires { n < 32 }
         ensures { Decides result (Same (level_in self.now n) (level_in self.now (suc n))) }
     {
-        self.layer(n) == self.layer(n + 1)
+        let here = self.layer(n);
+        let next = self.layer(n + 1);
+        here.facts == next.facts && here.exclusive == next.exclusive
     }
 
     // The closing level: the least that has the facts and the exclusions of the next one.
